@@ -1,0 +1,6 @@
+pub mod Answers
+pub mod Signs
+pub mod Shorts
+pub mod Tables
+pub mod Tests
+pub mod Tens

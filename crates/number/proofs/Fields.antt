@@ -1,0 +1,70 @@
+-- An integer field judged by the places that the code found, and the lengths that a field may have.
+use mathlib.Core.Bool.{Bool, true, false, cond, not}
+use mathlib.Core.List.{List, [], _∷_}
+use mathlib.Core.Path.{_≡_, refl, sym, _∙_, ap}
+use Prim.Native.Nat.{ℕ, _-_, _≤_, _<_}
+use native.Mathlib.Omega.{arith}
+use borrow.Author.Tests.{le-leb, lt-leb}
+use lib.Dec.{leb}
+use lib.ListN.{length, drop, length-drop}
+use Rattle.laws.specs.Sign.{_and_}
+use Rattle.laws.proofs.Tests.{and-both, and-fails-first, and-fails-second}
+use Rattle.number.specs.Bytes.{isBlank, isSign, isDigit, isEmpty, pastOne, pastAll, digits}
+use Rattle.number.specs.Integer.{integer, integerForm, integerValue, unsignedPart, within, read, refused}
+use Rattle.number.specs.Steps.{Past}
+use Rattle.number.specs.declared.Reading.{Reading}
+use Rattle.number.proofs.Runs.{run-length}
+
+pub within-none : (most : ℕ) (s : List ℕ) (r : Reading) → length s < 1 → within most s r ≡ refused 1
+within-none most s r h = simp (lt-leb 1 (length s) h)
+
+pub within-long : (most : ℕ) (s : List ℕ) (r : Reading) → most < length s → within most s r ≡ refused 1
+within-long most s r h = simp (and-fails-second (leb 1 (length s)) (lt-leb (length s) most h))
+
+pub within-good : (most : ℕ) (s : List ℕ) (r : Reading) → 1 ≤ length s → length s ≤ most → within most s r ≡ r
+within-good most s r h k = simp (le-leb 1 (length s) h, le-leb (length s) most k)
+
+pub empty-none : (l : List ℕ) → length l ≤ 0 → isEmpty l ≡ true
+empty-none [] h = refl
+empty-none (c ∷ l) h = absurd (omega arith)
+
+pub empty-some : (l : List ℕ) → 0 < length l → isEmpty l ≡ false
+empty-some [] h = absurd (omega arith)
+empty-some (c ∷ l) h = refl
+
+module _ (s : List ℕ) (h : 1 ≤ length s) (k : length s ≤ 6) where
+  pub integer-wrong : integerForm s ≡ false → integer s ≡ refused 6
+  unfolding integer
+  integer-wrong f = within-good 6 s _ h k ∙ simp f
+
+  pub integer-good : integerForm s ≡ true → integer s ≡ read (integerValue s)
+  unfolding integer
+  integer-good f = within-good 6 s _ h k ∙ simp f
+
+module _ (s : List ℕ) (t u : ℕ) (b : Past (pastAll isBlank) s 0 t) (g : Past (pastOne isSign) s t u) where
+  pub unsigned-is : drop u s ≡ unsignedPart s
+  unsigned-is = g .is ∙ ap (pastOne isSign) (b .is)
+
+  module _ (n : ℕ) (d : Past (pastAll isDigit) s u n) where
+    pub form-none : n ≡ u → integerForm s ≡ false
+    form-none e =
+        let h : length (digits (drop u s)) ≤ 0 = omega (arith, run-length s u n d) in
+        let k : isEmpty (digits (drop u s)) ≡ true = empty-none (digits (drop u s)) h in
+        rw (← unsigned-is, k)
+
+    pub form-short : n < length s → integerForm s ≡ false
+    form-short h =
+        let k : isEmpty (pastAll isDigit (drop u s)) ≡ false =
+        ap isEmpty (sym (d .is)) ∙ empty-some (drop n s) (omega (arith, length-drop n s))
+        in
+        rw (← unsigned-is) (and-fails-second (not (isEmpty (digits (drop u s)))) k)
+
+    pub form-good : (n ≡ u → ⊥) → length s ≤ n → integerForm s ≡ true
+    form-good f h =
+        let k : isEmpty (pastAll isDigit (drop u s)) ≡ true =
+        ap isEmpty (sym (d .is)) ∙ empty-none (drop n s) (omega (arith, length-drop n s))
+        in
+        let m : isEmpty (digits (drop u s)) ≡ false =
+        empty-some (digits (drop u s)) (omega (arith, run-length s u n d, d .onward, f))
+        in
+        rw (← unsigned-is, k, m)

@@ -1,0 +1,10 @@
+pub mod Places
+pub mod Runs
+pub mod Fields
+pub mod Scale
+pub mod Powers
+pub mod Reals
+pub mod GrammarParts
+pub mod GrammarForms
+pub mod GrammarValues
+pub mod Grammar

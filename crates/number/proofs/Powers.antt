@@ -1,0 +1,85 @@
+-- A power of ten judged by the places that the code found.
+use mathlib.Core.Bool.{Bool, true, false, cond}
+use mathlib.Core.List.{List}
+use mathlib.Core.Logic.{_⊎_, inl, inr}
+use mathlib.Core.Path.{_≡_, refl, sym, _∙_, ap, subst⁻¹}
+use Prim.Native.Nat.{ℕ, _+_, _-_, _^_, _≤_, _<_}
+use native.Mathlib.Nat.{lt-of-lt-of-le}
+use native.Mathlib.Omega.{arith}
+use borrow.Author.Tests.{le-leb, lt-leb}
+use lib.Dec.{leb, lit<}
+use Rattle.laws.specs.Sign.{_and_}
+use lib.ListN.{length, drop, getD}
+use Rattle.laws.proofs.Tens.{ten-up}
+use Rattle.laws.proofs.Tests.{clash, and-fails-second}
+use Rattle.number.specs.Bytes.{isLetter, isSign, isMinus, isDigit, starts, pastOne, pastAll, digits, number}
+use Rattle.number.specs.Grammar.{every}
+use Rattle.number.specs.Real.{power, powerForm, powerMinus, powerSize, pastPower}
+use Rattle.number.specs.Steps.{Past, RunAt, PowerAt, Leads, none}
+use Rattle.number.specs.declared.decimal.Power.{Power}
+use Rattle.number.specs.declared.decimal.Run.{Run}
+use Rattle.number.proofs.Places.{one-taken, starts-here}
+use Rattle.number.proofs.Runs.{run-length, number-below}
+use Rattle.number.proofs.Scale.{leads-none, leads-all, leads-whole, digits-are}
+
+pub power-none : (s : List ℕ) (from : ℕ) → from ≤ length s → starts isLetter (drop from s) ≡ false
+    → PowerAt s from (record { good = true; next = from; minus = false; size = 0 })
+power-none s from h e =
+    record {
+      form = rw e;
+      is = λ g. record { past = record { onward = omega arith; inside = h; is = rw e }; minus = rw e; size = rw e; small = omega arith };
+    }
+
+module _ (s : List ℕ) (from first : ℕ) (r : Run) (here : from < length s) (letter : isLetter (getD s from 0) ≡ true)
+    (sign : Past (pastOne isSign) s (from + 1) first) (run : RunAt s first none r) where
+  begins : starts isLetter (drop from s) ≡ true
+  begins = sym (starts-here isLetter s from here) ∙ letter
+
+  past-letter : pastOne isLetter (drop from s) ≡ drop (from + 1) s
+  past-letter = sym (one-taken isLetter s from here letter .is)
+
+  digits-at : pastOne isSign (pastOne isLetter (drop from s)) ≡ drop first s
+  digits-at = ap (pastOne isSign) past-letter ∙ sym (sign .is)
+
+  many : length (power (drop from s)) ≡ r .next - first
+  many = ap (λ l. length (digits l)) digits-at ∙ run-length s first (r .next) (run .past)
+
+  pub power-wrong : (next : ℕ) → (leb 1 (r .next - first) ≡ false) ⊎ (leb (r .next - first) 2 ≡ false)
+      → PowerAt s from (record { good = false; next = next; minus = false; size = 0 })
+  power-wrong next w = record { form = rw (begins, many) (go w); is = λ g. clash (sym g) }
+    where
+      go : (leb 1 (r .next - first) ≡ false) ⊎ (leb (r .next - first) 2 ≡ false)
+          → false ≡ (leb 1 (r .next - first) and leb (r .next - first) 2)
+      go (inl e) = rw e
+      go (inr e) = sym (and-fails-second (leb 1 (r .next - first)) e)
+
+  pub power-good : first + 1 ≤ r .next → r .next ≤ first + 2 → (minus : Bool) → minus ≡ starts isMinus (drop (from + 1) s)
+      → PowerAt s from (record { good = true; next = r .next; minus = minus; size = r .kept .head })
+  power-good low high minus m =
+      record {
+        form = rw (begins, many) (sym (rw (le-leb 1 (r .next - first) (omega arith)) (le-leb (r .next - first) 2 (omega arith))));
+        is =
+            λ g.
+            record {
+              past =
+                  record {
+                    onward = omega (arith, sign .onward, run .past .onward);
+                    inside = run .past .inside;
+                    is = run .past .is ∙ rw begins (ap (pastAll isDigit) (sym digits-at));
+                  };
+              minus = m ∙ rw (begins, past-letter);
+              size = whole ∙ rw begins (ap (λ l. number 0 (digits l)) (sym digits-at));
+              small = omega (arith, whole, below);
+            };
+      }
+    where
+      below : number 0 (digits (drop first s)) < 100
+      below =
+          let k : 0 + length (digits (drop first s)) ≤ 2 = omega (arith, run-length s first (r .next) (run .past)) in
+          lt-of-lt-of-le (number-below 0 0 (digits (drop first s)) (digits-are (drop first s)) (lit< tt)) (ten-up k)
+
+      whole : r .kept .head ≡ number 0 (digits (drop first s))
+      whole =
+          leads-whole (number 0 (digits (drop first s))) (r .kept) (omega (arith, below))
+          (subst⁻¹ (Leads (number 0 (digits (drop first s)))) (run .kept)
+          (leads-all 0 none (digits (drop first s)) (digits-are (drop first s)) leads-none))

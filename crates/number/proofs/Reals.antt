@@ -1,0 +1,113 @@
+-- A real field judged by the places that the code found, and its value from the kept digits.
+use mathlib.Core.Bool.{Bool, true, false, cond, not}
+use mathlib.Core.List.{List}
+use mathlib.Core.Path.{_≡_, refl, sym, _∙_, ap, ap₂, subst⁻¹}
+use Prim.Native.Nat.{ℕ, _+_, _≤_, _<_}
+use native.Mathlib.Nat.{add-zero}
+use native.Mathlib.Omega.{arith}
+use lib.ListN.{length, drop, length-drop}
+use Rattle.laws.specs.Sign.{_and_}
+use Rattle.laws.proofs.Tests.{and-fails-first, and-fails-second}
+use Rattle.number.specs.Bytes.{isBlank, isSign, isMinus, isEmpty, starts, pastOne, pastAll, digits, isDigit, number}
+use Rattle.number.specs.Grammar.{every}
+use Rattle.number.specs.Integer.{unsignedPart, refused}
+use Rattle.number.specs.Real.{
+  real,
+  realForm,
+  realValue,
+  mantissaDigits,
+  fractionPart,
+  pastMantissa,
+  powerForm,
+  powerMinus,
+  powerSize,
+  pastPower,
+  up,
+  down,
+  billionths,
+}
+use Rattle.number.specs.Steps.{Past, MantissaAt, PowerAt, PowerIs, ScaledAt, Leads, none, keptAll, readingOf}
+use Rattle.number.specs.declared.decimal.Mantissa.{Mantissa}
+use Rattle.number.specs.declared.decimal.Power.{Power}
+use Rattle.number.specs.declared.decimal.Scaled.{Scaled}
+use Rattle.number.proofs.Fields.{within-good, empty-none, empty-some, unsigned-is}
+use Rattle.number.proofs.Scale.{leads-none, leads-all, digits-are, every-append}
+
+module _ (s : List ℕ) (h : 1 ≤ length s) (k : length s ≤ 24) where
+  pub real-wrong : realForm (unsignedPart s) ≡ false → real s ≡ refused 6
+  unfolding real
+  real-wrong f = within-good 24 s _ h k ∙ simp f
+
+  pub real-good : realForm (unsignedPart s) ≡ true → real s ≡ realValue (starts isMinus (pastAll isBlank s)) (unsignedPart s)
+  unfolding real
+  real-good f = within-good 24 s _ h k ∙ simp f
+
+module _ (s : List ℕ) (u : ℕ) (is : drop u s ≡ unsignedPart s) (m : Mantissa) (ma : MantissaAt s u m) where
+  pub form-no-digit : m .digits ≡ 0 → realForm (unsignedPart s) ≡ false
+  form-no-digit e =
+      let z : isEmpty (mantissaDigits (drop u s)) ≡ true = empty-none (mantissaDigits (drop u s)) (omega (arith, ma .count)) in
+      rw (← is, z)
+
+  module _ (p : Power) (pa : PowerAt s (m .next) p) where
+    at-power : drop (m .next) s ≡ pastMantissa (unsignedPart s)
+    at-power = ma .past .is ∙ ap pastMantissa is
+
+    form-of-power : p .good ≡ powerForm (pastMantissa (unsignedPart s))
+    form-of-power = pa .form ∙ ap powerForm at-power
+
+    pub form-no-power : p .good ≡ false → realForm (unsignedPart s) ≡ false
+    form-no-power e =
+        and-fails-second (not (isEmpty (mantissaDigits (unsignedPart s))))
+        (and-fails-first (isEmpty (pastAll isBlank (pastPower (pastMantissa (unsignedPart s))))) (sym form-of-power ∙ e))
+
+    module _ (good : p .good ≡ true) (end : ℕ) (rest : Past (pastAll isBlank) s (p .next) end) where
+      at-end : drop end s ≡ pastAll isBlank (pastPower (pastMantissa (unsignedPart s)))
+      at-end = rest .is ∙ ap (pastAll isBlank) (pa .is good .past .is ∙ ap pastPower at-power)
+
+      pub form-no-end : end < length s → realForm (unsignedPart s) ≡ false
+      form-no-end l =
+          let e : isEmpty (pastAll isBlank (pastPower (pastMantissa (unsignedPart s)))) ≡ false =
+          ap isEmpty (sym at-end) ∙ empty-some (drop end s) (omega (arith, length-drop end s))
+          in
+          and-fails-second (not (isEmpty (mantissaDigits (unsignedPart s))))
+          (and-fails-second (powerForm (pastMantissa (unsignedPart s))) e)
+
+      pub form-real : (m .digits ≡ 0 → ⊥) → length s ≤ end → realForm (unsignedPart s) ≡ true
+      form-real d l =
+          let e : isEmpty (pastAll isBlank (pastPower (pastMantissa (unsignedPart s)))) ≡ true =
+          ap isEmpty (sym at-end) ∙ empty-none (drop end s) (omega (arith, length-drop end s))
+          in
+          let z : isEmpty (mantissaDigits (unsignedPart s)) ≡ false =
+          ap (λ l. isEmpty (mantissaDigits l)) (sym is) ∙ empty-some (mantissaDigits (drop u s)) (omega (arith, ma .count, d))
+          in
+          let w : powerForm (pastMantissa (unsignedPart s)) ≡ true = sym form-of-power ∙ good in
+          rw (z, w, e)
+
+      kept-leads : Leads (number 0 (mantissaDigits (unsignedPart s))) (m .kept)
+      kept-leads =
+          subst⁻¹ (Leads (number 0 (mantissaDigits (unsignedPart s)))) (ma .kept ∙ ap (λ l. keptAll none (mantissaDigits l)) is)
+          (leads-all 0 none (mantissaDigits (unsignedPart s))
+          (every-append isDigit (digits (unsignedPart s)) (digits (fractionPart (unsignedPart s))) (digits-are (unsignedPart s))
+          (digits-are (fractionPart (unsignedPart s))))
+          leads-none)
+
+      places-is : m .places ≡ length (digits (fractionPart (unsignedPart s)))
+      places-is = ma .places ∙ ap (λ l. length (digits (fractionPart l))) is
+
+      size-is : p .size ≡ powerSize (pastMantissa (unsignedPart s))
+      size-is = pa .is good .size ∙ ap powerSize at-power
+
+      minus-is : p .minus ≡ powerMinus (pastMantissa (unsignedPart s))
+      minus-is = pa .is good .minus ∙ ap powerMinus at-power
+
+      pub value-lowered : p .minus ≡ true → (r : Scaled) → ScaledAt (m .kept) 9 (m .places + p .size) r → (minus : Bool)
+          → realValue minus (unsignedPart s) ≡ readingOf minus r
+      value-lowered e r sc minus =
+          let w : powerMinus (pastMantissa (unsignedPart s)) ≡ true = sym minus-is ∙ e in
+          rw (w, ← size-is, ← places-is) (sc .is _ kept-leads minus)
+
+      pub value-raised : p .minus ≡ false → (r : Scaled) → ScaledAt (m .kept) (9 + p .size) (m .places) r → (minus : Bool)
+          → realValue minus (unsignedPart s) ≡ readingOf minus r
+      value-raised e r sc minus =
+          let w : powerMinus (pastMantissa (unsignedPart s)) ≡ false = sym minus-is ∙ e in
+          rw (w, ← size-is, ← places-is, add-zero) (sc .is _ kept-leads minus)

@@ -1,0 +1,35 @@
+-- Document 01, "Number fields": an integer field, read alone.
+use mathlib.Core.Bool.{Bool, true, false, cond, not}
+use mathlib.Core.List.{List}
+use Prim.Native.Nat.{ℕ}
+use lib.IntN.{ℤ, pos}
+use lib.Dec.{leb}
+use lib.ListN.{length}
+use Rattle.laws.specs.Sign.{signed, _and_}
+use Rattle.number.specs.declared.Reading.{Reading}
+use Rattle.number.specs.Bytes.{isBlank, isSign, isMinus, isDigit, isEmpty, starts, pastOne, pastAll, digits, number}
+
+-- "A refused reading gives its kind .."
+abbrev pub refused : ℕ → Reading
+refused k = record { kind = k; value = pos 0 }
+
+abbrev pub read : ℤ → Reading
+read z = record { kind = 0; value = z }
+
+-- "Read alone, an integer field has 1 to 6 bytes, a real 1 to 24, else kind 1."
+abbrev pub within : ℕ → List ℕ → Reading → Reading
+within most s r = cond (leb 1 (length s) and leb (length s) most) r (refused 1)
+
+-- the field past its blanks and its sign
+abbrev pub unsignedPart : List ℕ → List ℕ
+unsignedPart s = pastOne isSign (pastAll isBlank s)
+
+-- "An integer field is blanks, an optional sign, then one or more digits up to the field's end."
+abbrev pub integerForm : List ℕ → Bool
+integerForm s = not (isEmpty (digits (unsignedPart s))) and isEmpty (pastAll isDigit (unsignedPart s))
+
+abbrev pub integerValue : List ℕ → ℤ
+integerValue s = signed (starts isMinus (pastAll isBlank s)) (number 0 (digits (unsignedPart s)))
+
+unfoldable pub integer : List ℕ → Reading
+integer s = within 6 s (cond (integerForm s) (read (integerValue s)) (refused 6))

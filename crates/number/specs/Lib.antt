@@ -1,0 +1,5 @@
+pub mod Bytes
+pub mod Grammar
+pub mod Integer
+pub mod Real
+pub mod Steps

@@ -1,0 +1,66 @@
+-- Document 01, "Number fields": a real field, read alone, in billionths.
+use mathlib.Core.Bool.{Bool, true, false, cond, not}
+use mathlib.Core.List.{List, _++_}
+use Prim.Native.Nat.{ℕ, _+_, _*_, _/_, _%_, _^_}
+use lib.IntN.{ℤ}
+use lib.Dec.{leb, eqb}
+use lib.ListN.{length}
+use Rattle.laws.specs.Sign.{signed, _and_}
+use Rattle.laws.specs.Digits.{short}
+use Rattle.number.specs.declared.Reading.{Reading}
+use Rattle.number.specs.Bytes.{isBlank, isMinus, isSign, isPoint, isLetter, isDigit, isEmpty, starts, pastOne, pastAll, digits, number}
+use Rattle.number.specs.Integer.{read, refused, within, unsignedPart}
+
+-- "A real field is blanks, an optional sign, digits with at most one point ..": u is the field past its sign
+abbrev pub fractionPart : List ℕ → List ℕ
+fractionPart u = pastOne isPoint (pastAll isDigit u)
+
+abbrev pub mantissaDigits : List ℕ → List ℕ
+mantissaDigits u = digits u ++ digits (fractionPart u)
+
+abbrev pub pastMantissa : List ℕ → List ℕ
+pastMantissa u = pastAll isDigit (fractionPart u)
+
+-- ".. an optional exponent (D or E, optional sign, one or two digits) ..": x is the field past its mantissa
+abbrev pub power : List ℕ → List ℕ
+power x = digits (pastOne isSign (pastOne isLetter x))
+
+abbrev pub powerForm : List ℕ → Bool
+powerForm x = cond (starts isLetter x) (leb 1 (length (power x)) and leb (length (power x)) 2) true
+
+abbrev pub pastPower : List ℕ → List ℕ
+pastPower x = cond (starts isLetter x) (pastAll isDigit (pastOne isSign (pastOne isLetter x))) x
+
+abbrev pub powerMinus : List ℕ → Bool
+powerMinus x = cond (starts isLetter x) (starts isMinus (pastOne isLetter x)) false
+
+abbrev pub powerSize : List ℕ → ℕ
+powerSize x = cond (starts isLetter x) (number 0 (power x)) 0
+
+-- ".. then blanks."
+abbrev pub realForm : List ℕ → Bool
+realForm u =
+    not (isEmpty (mantissaDigits u)) and powerForm (pastMantissa u) and isEmpty (pastAll isBlank (pastPower (pastMantissa u)))
+
+-- the value in billionths is mantissa × 10 ^ up / 10 ^ down
+abbrev pub up : List ℕ → ℕ
+up u = 9 + cond (powerMinus (pastMantissa u)) 0 (powerSize (pastMantissa u))
+
+abbrev pub down : List ℕ → ℕ
+down u = length (digits (fractionPart u)) + cond (powerMinus (pastMantissa u)) (powerSize (pastMantissa u)) 0
+
+-- "Below are refused, in this order: magnitude 1,000,000,000 or more (7); not a whole number of billionths, or more than 15 .. (8)."
+unfoldable pub billionths : Bool → ℕ → ℕ → ℕ → Reading
+billionths minus m u d =
+    cond (leb (10 ^ 18 * 10 ^ d) (m * 10 ^ u)) (refused 7)
+    (cond (eqb (m * 10 ^ u % 10 ^ d) 0 and short 18 15 (m * 10 ^ u / 10 ^ d))
+    (read (signed minus (m * 10 ^ u / 10 ^ d)))
+    (refused 8))
+
+abbrev pub realValue : Bool → List ℕ → Reading
+realValue minus u = billionths minus (number 0 (mantissaDigits u)) (up u) (down u)
+
+unfoldable pub real : List ℕ → Reading
+real s =
+    within 24 s
+    (cond (realForm (unsignedPart s)) (realValue (starts isMinus (pastAll isBlank s)) (unsignedPart s)) (refused 6))

@@ -1,0 +1,114 @@
+// Number fields, read exactly: document 01, "Number fields". No floating point anywhere.
+mod decimal;
+mod walk;
+
+use decimal::Scaled;
+ghost use mathlib.Core.Path.{_≡_};
+ghost use Prim.Native.Nat.{ℕ, _<_, _^_};
+ghost use Rattle.laws.specs.Sign.{signed};
+ghost use Rattle.number.specs.Integer.{integer, refused};
+ghost use Rattle.number.specs.Real.{real};
+ghost use Rattle.number.specs.Steps.{readingOf};
+
+// Kind 0 is a good reading; any other kind is document 01's number of the refusal, with the value 0.
+pub struct Reading {
+    pub kind: u32,
+    pub value: i64,
+}
+
+// Document 01's kinds of a text that is no field.
+const WRONG_LENGTH: u32 = 1;
+
+const WRONG_FORM: u32 = 6;
+
+fn refuse(kind: u32) -> Reading
+    ensures { λ r. ⌜ r ≡ refused kind ⌝ }
+{
+    Reading { kind, value: 0 }
+}
+
+fn join(minus: bool, size: u64) -> i64
+    requires { ⌜ size < 2 ^ 63 ⌝ }
+    ensures { λ r. ⌜ r ≡ signed minus size ⌝ }
+{
+    if minus { -(size as i64) } else { size as i64 }
+}
+
+// The number of an integer field of 1 to 6 bytes; kinds 1 and 6.
+pub fn read_integer(field: &[u8]) -> Reading
+    ensures { λ r. ⌜ r ≡ integer (now (field .entry)) ⌝ }
+{
+    let n = field.len();
+    if n < 1 {
+        return refuse(WRONG_LENGTH);
+    }
+    if 6 < n {
+        return refuse(WRONG_LENGTH);
+    }
+    let t = walk::past_blanks(field, 0);
+    let u = walk::past_sign(field, t);
+    let w = walk::read_whole(field, u);
+    let next = w.next;
+    if next == u {
+        return refuse(WRONG_FORM);
+    }
+    if next < n {
+        return refuse(WRONG_FORM);
+    }
+    Reading {
+        kind: 0,
+        value: join(walk::minus_at(field, t), w.value),
+    }
+}
+
+fn settle(minus: bool, s: Scaled) -> Reading
+    requires { ⌜ ((n : ℕ) → s ≡ Scaled.Exact n → n < 10 ^ 18) ⌝ }
+    ensures { λ r. ⌜ r ≡ readingOf minus s ⌝ }
+{
+    match s {
+        Scaled::Exact(n) => Reading {
+            kind: 0,
+            value: join(minus, n),
+        },
+        Scaled::Refused(k) => refuse(k),
+    }
+}
+
+// The value of a real field of 1 to 24 bytes, in billionths; kinds 1, 6, 7 and 8.
+pub fn read_real(field: &[u8]) -> Reading
+    ensures { λ r. ⌜ r ≡ real (now (field .entry)) ⌝ }
+{
+    let n = field.len();
+    if n < 1 {
+        return refuse(WRONG_LENGTH);
+    }
+    if 24 < n {
+        return refuse(WRONG_LENGTH);
+    }
+    let t = walk::past_blanks(field, 0);
+    let u = walk::past_sign(field, t);
+    let m = decimal::read_mantissa(field, u);
+    let x = m.next;
+    if m.digits == 0 {
+        return refuse(WRONG_FORM);
+    }
+    let p = decimal::read_power(field, x);
+    if !p.good {
+        return refuse(WRONG_FORM);
+    }
+    let rest = p.next;
+    if walk::past_blanks(field, rest) < n {
+        return refuse(WRONG_FORM);
+    }
+    let kept = m.kept;
+    if p.minus {
+        return settle(
+            walk::minus_at(field, t),
+            decimal::scale(kept, 9, m.places + p.size),
+        );
+    }
+    settle(
+        walk::minus_at(field, t),
+        decimal::scale(kept, 9 + p.size, m.places),
+    )
+}

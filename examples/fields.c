@@ -1,0 +1,85 @@
+/* Field readings from C: what the desk program does with a number field.
+ *   fields          checks the paper's examples, whose answers are written here from document 01, and prints each
+ *   fields -        reads fields from standard input, one to a line, and prints both readings of each
+ * Ends with status 1 if an example is not answered as the paper says. */
+#include <inttypes.h>
+#include <stdio.h>
+#include <string.h>
+
+#include "desk.h"
+
+struct example {
+    char reading; /* i or r */
+    const char *text;
+    uint32_t kind;
+    int64_t value; /* of a real, in billionths */
+};
+
+/* document 01, "Examples on the edge" */
+static const struct example examples[] = {
+    {'r', "0.428400000000000D+06", 0, INT64_C(428400000000000)},
+    {'r', "1.0D-09", 0, 1},
+    {'r', ".5D-09", 8, 0},
+    {'r', "1.0D+09", 7, 0},
+    {'r', "0.0D+99", 0, 0},
+    {'r', "                        ", 6, 0},
+    {'r', "123456789.1234567", 8, 0},
+    {'r', "999999999.9", 0, INT64_C(999999999900000000)},
+    {'i', "    -7", 0, -7},
+    {'i', "32768 ", 6, 0},
+    {'i', "-32768", 0, -32768},
+    {'i', "      ", 6, 0},
+    {'i', "", 1, 0},
+};
+
+static void print_reading(const char *name, uint32_t kind, int64_t value, int billionths)
+{
+    if (kind != 0)
+        printf("  %s: refused, kind %" PRIu32 "\n", name, kind);
+    else if (!billionths)
+        printf("  %s: %" PRId64 "\n", name, value);
+    else {
+        uint64_t size = value < 0 ? (uint64_t)-value : (uint64_t)value;
+        printf("  %s: %s%" PRIu64 ".%09" PRIu64 "\n", name, value < 0 ? "-" : "", size / 1000000000, size % 1000000000);
+    }
+}
+
+static int check_examples(void)
+{
+    int wrong = 0;
+    for (size_t i = 0; i < sizeof examples / sizeof *examples; i++) {
+        const struct example *e = &examples[i];
+        const uint8_t *field = (const uint8_t *)e->text;
+        size_t n = strlen(e->text);
+        uint32_t kind = e->reading == 'i' ? dem_integer_kind(field, n) : dem_real_kind(field, n);
+        int64_t value = e->reading == 'i' ? dem_integer_value(field, n) : dem_real_value(field, n);
+        printf("[%s]\n", e->text);
+        print_reading(e->reading == 'i' ? "integer" : "real", kind, value, e->reading == 'r');
+        if (kind != e->kind || value != e->value) {
+            printf("  WRONG: document 01 says kind %" PRIu32 ", value %" PRId64 "\n", e->kind, e->value);
+            wrong = 1;
+        }
+    }
+    return wrong;
+}
+
+static void read_lines(void)
+{
+    char line[4096];
+    while (fgets(line, sizeof line, stdin)) {
+        size_t n = strcspn(line, "\n");
+        const uint8_t *field = (const uint8_t *)line;
+        printf("[%.*s]\n", (int)n, line);
+        print_reading("integer", dem_integer_kind(field, n), dem_integer_value(field, n), 0);
+        print_reading("real", dem_real_kind(field, n), dem_real_value(field, n), 1);
+    }
+}
+
+int main(int argc, char **argv)
+{
+    if (argc > 1 && strcmp(argv[1], "-") == 0) {
+        read_lines();
+        return 0;
+    }
+    return check_examples();
+}

@@ -1,0 +1,27 @@
+/* The calls of the terrain sheet library. Each takes bytes as a pointer and a length, keeps nothing and allocates nothing.
+ * The bytes need no end mark; a length of 0 is answered like any other, and the pointer must still not be NULL.
+ * Types and names are those of crates/desk/src/lib.rt, where each call's promise stands. */
+#ifndef DESK_H
+#define DESK_H
+
+#include <stddef.h>
+#include <stdint.h>
+
+#ifdef __cplusplus
+extern "C" {
+#endif
+
+/* An integer field of 1 to 6 bytes. Kind: 0 read, 1 wrong length, 6 wrong form. Value: 0 where refused. */
+uint32_t dem_integer_kind(const uint8_t *field, size_t length);
+int64_t dem_integer_value(const uint8_t *field, size_t length);
+
+/* A real field of 1 to 24 bytes. Kind: 0 read, 1 wrong length, 6 wrong form, 7 magnitude 1,000,000,000 or more,
+ * 8 finer than a billionth or more than 15 digits. Value: a whole number of billionths, 0 where refused. */
+uint32_t dem_real_kind(const uint8_t *field, size_t length);
+int64_t dem_real_value(const uint8_t *field, size_t length);
+
+#ifdef __cplusplus
+}
+#endif
+
+#endif
