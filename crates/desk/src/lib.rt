@@ -2,6 +2,9 @@
 ghost use mathlib.Core.Path.{_≡_};
 ghost use Rattle.number.specs.Integer.{integer};
 ghost use Rattle.number.specs.Real.{real};
+ghost use Rattle.label.specs.Label.{originOf, nameLength};
+ghost use Rattle.sheet.specs.RecordA.{recordA, checkedKind, checkedByte};
+use sheet::record_a::Checked;
 
 // 0, or document 01's number of the refusal.
 #[no_mangle]
@@ -37,4 +40,43 @@ pub extern "C" fn dem_real_value(field: &[u8]) -> i64
 {
     let r = number::read_real(field);
     r.value
+}
+
+// 0, or the number of the first rule of record A that the block breaks.
+#[no_mangle]
+pub extern "C" fn dem_record_a_kind(block: &[u8]) -> u32
+    ensures { λ r. ⌜ r ≡ checkedKind (recordA (now (block .entry))) ⌝ }
+{
+    match sheet::record_a::check_record_a(block) {
+        Checked::Sheet(_) => 0,
+        Checked::Refused(kind, _) => kind,
+    }
+}
+
+// The byte where that rule stands, counted from 1; 0 where none is broken or the block has another length.
+#[no_mangle]
+pub extern "C" fn dem_record_a_byte(block: &[u8]) -> u32
+    ensures { λ r. ⌜ r ≡ checkedByte (recordA (now (block .entry))) ⌝ }
+{
+    match sheet::record_a::check_record_a(block) {
+        Checked::Sheet(_) => 0,
+        Checked::Refused(_, byte) => byte,
+    }
+}
+
+// 1 to 6, or 0 for any other text or length.
+#[no_mangle]
+pub extern "C" fn dem_origin(block: &[u8]) -> u32
+    ensures { λ r. ⌜ r ≡ originOf (now (block .entry)) ⌝ }
+{
+    label::origin(block)
+}
+
+// How many bytes of the block, from its first, are the sheet's name.
+#[no_mangle]
+pub extern "C" fn dem_name_length(block: &[u8]) -> usize
+    ensures { λ r. ⌜ r ≡ nameLength (now (block .entry)) ⌝ }
+{
+    let name = label::name(block);
+    name.len()
 }

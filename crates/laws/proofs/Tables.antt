@@ -29,3 +29,14 @@ from f (x ∷ xs) i t (suc k) h =
 
 pub entry : (f : ℕ → ℕ) (xs : List ℕ) → T (follows f 0 xs) → (k : ℕ) → k < length xs → getD xs k 0 ≡ f k
 entry f xs t k h = from f xs 0 t k h ∙ rw (zero-add k)
+
+-- a test of every entry
+abbrev pub all {ℓ} : {A : Type ℓ} → (A → Bool) → List A → Bool
+all f [] = true
+all f (x ∷ xs) = f x and all f xs
+
+-- a test passed by every entry is passed by the one at each place
+pub all-at {ℓ} : {A : Type ℓ} (f : A → Bool) (xs : List A) (d : A) → T (all f xs) → (k : ℕ) → k < length xs → T (f (getD xs k d))
+all-at f [] d t k h = absurd (not-suc-le-zero h)
+all-at f (x ∷ xs) d t zero h = and-left (f x) (all f xs) t
+all-at f (x ∷ xs) d t (suc k) h = all-at f xs d (and-right (f x) (all f xs) t) k (le-of-suc-le-suc h)

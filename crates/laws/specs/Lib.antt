@@ -1,2 +1,3 @@
 pub mod Sign
 pub mod Digits
+pub mod Texts

@@ -2,33 +2,40 @@
 use mathlib.Core.List.{List, [], _∷_}
 use mathlib.Core.Path.{_≡_}
 use Prim.Native.Nat.{ℕ, _*_, _^_}
-use Prim.Native.Char.{code}
 use Prim.Native.String.{String}
-use lib.IntN.{pos, negsuc}
+use lib.IntN.{ℤ, pos, negsuc, negℤ, _*ℤ_}
+use Rattle.laws.specs.Texts.{bytes}
 use Rattle.number.specs.declared.Reading.{Reading}
 use Rattle.number.specs.Integer.{integer, read, refused}
 use Rattle.number.specs.Real.{real}
-
--- the bytes of a text
-abbrev pub bytes : String → List ℕ
-bytes String.[] = []
-bytes (String._∷_ c s) = code c ∷ bytes s
+use Rattle.sheet.specs.Lattice.{firstMultiple, lastMultiple}
 
 pub data Example : Type 0 where
   integerField : String → Reading → Example
   realField : String → Reading → Example
+  latticeStarts : ℤ → ℕ → ℤ → Example
+  latticeEnds : ℤ → ℕ → ℤ → Example
 
 abbrev pub Holds : Example → Type 0
 Holds (integerField text told) = integer (bytes text) ≡ told
 Holds (realField text told) = real (bytes text) ≡ told
+Holds (latticeStarts corner spacing told) = firstMultiple corner spacing *ℤ pos spacing ≡ told
+Holds (latticeEnds corner spacing told) = lastMultiple corner spacing *ℤ pos spacing ≡ told
 
 abbrev pub AllHold : List Example → Type 0
 AllHold [] = Unit {0}
 AllHold (e ∷ es) = Holds e × AllHold es
 
--- a whole number, in billionths
+-- thousandths, as billionths
+abbrev pub thousandths : ℕ → ℤ
+thousandths n = pos (n * 10 ^ 6)
+
+-- whole numbers, as billionths
+abbrev pub units : ℕ → ℕ
+units n = n * 10 ^ 9
+
 abbrev pub wholes : ℕ → Reading
-wholes n = read (pos (n * 10 ^ 9))
+wholes n = read (pos (units n))
 
 unfoldable pub table : List Example
 table =
@@ -40,4 +47,8 @@ table =
     ∷ realField "                        " (refused 6)
     ∷ integerField "      " (refused 6)
     ∷ integerField "    -7" (read (negsuc 6))
+    ∷ latticeStarts (thousandths 549498713) (units 30) (pos (units 549510))
+    ∷ latticeStarts (thousandths 3011225379) (units 30) (pos (units 3011250))
+    ∷ latticeStarts (negℤ (pos (units 428399))) (units 3) (negℤ (pos (units 428397)))
+    ∷ latticeEnds (negℤ (thousandths 424800500)) (units 3) (negℤ (pos (units 424803)))
     ∷ []

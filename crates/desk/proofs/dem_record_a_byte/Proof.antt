@@ -1,0 +1,25 @@
+-- The byte of the proved verdict, by its two cases.
+use mathlib.Core.Path.{sym, _∙_, ap}
+use Rattle.sheet.specs.RecordA.{checkedByte}
+use borrow.Author.Needs.{needs}
+use Rattle.desk.proofs.dem_record_a_byte.Statement.{statement}
+use Rattle.desk.proofs.dem_record_a_byte.Tie as tie
+
+check-record-a-requires : tie.Need-check-record-a-requires
+check-record-a-requires c κs = search needs
+
+enum-told : tie.Need-enum-told
+enum-told c = search needs
+
+enum-known-byte : tie.Need-enum-known-byte
+enum-known-byte c = search needs
+
+returns : tie.Need-returns
+returns c = sym (ap checkedByte (c .enum-told .given .1)) ∙ ap checkedByte (c .before .before .check-record-a .ensures)
+
+returns-2 : tie.Need-returns-2
+returns-2 c = sym (ap checkedByte (c .before .byte .given .1)) ∙ ap checkedByte (c .before .before .before .check-record-a .ensures)
+
+pub dem-record-a-byte-spec : {M : Type 1} → statement M
+dem-record-a-byte-spec =
+    tie.close (tie.spec check-record-a-requires enum-told enum-known-byte returns returns-2)

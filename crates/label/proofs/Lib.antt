@@ -1,0 +1,4 @@
+pub mod Blocks
+pub mod Ends
+pub mod Origins
+pub mod Names

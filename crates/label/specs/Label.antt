@@ -1,0 +1,29 @@
+-- Document 01, "Record A": the origin's number and the sheet's name.
+use mathlib.Core.Bool.{Bool, true, false, cond}
+use mathlib.Core.List.{List, [], _∷_}
+use Prim.Native.Nat.{ℕ, zero, suc, _-_}
+use lib.Dec.{eqb}
+use lib.ListN.{length, take, drop}
+use Rattle.laws.specs.Texts.{bytes, same}
+
+-- "MAC ", "GPM2", "MCMC", "RMMC", "WMC ", "FS  " (002), as 1 to 6
+abbrev pub origins : List (List ℕ)
+origins = bytes "MAC " ∷ bytes "GPM2" ∷ bytes "MCMC" ∷ bytes "RMMC" ∷ bytes "WMC " ∷ bytes "FS  " ∷ []
+
+-- the place of a text in a list, counted from k; 0 where it stands nowhere
+abbrev pub placeIn : ℕ → List ℕ → List (List ℕ) → ℕ
+placeIn k t [] = 0
+placeIn k t (o ∷ os) = cond (same t o) k (placeIn (suc k) t os)
+
+-- "Origin (141-144) is reported as 1 to 6 .. and 0 for any other."; a block of another length has none
+unfoldable pub originOf : List ℕ → ℕ
+originOf block = cond (eqb (length block) 1024) (placeIn 1 (take 4 (drop 140 block)) origins) 0
+
+-- how many bytes a text has up to its last one that is not blank
+abbrev pub filled : List ℕ → ℕ
+filled [] = 0
+filled (c ∷ s) = cond (eqb (filled s) 0) (cond (eqb c 32) 0 1) (suc (filled s))
+
+-- "from byte 1 to the last non-blank of bytes 1-40; all blank, or a block of another length, gives an empty part"
+unfoldable pub nameLength : List ℕ → ℕ
+nameLength block = cond (eqb (length block) 1024) (filled (take 40 block)) 0

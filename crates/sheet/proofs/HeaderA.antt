@@ -1,0 +1,159 @@
+-- Where no field is at fault, the header from the walk's values is the header of the block.
+use mathlib.Core.Bool.{Bool, true, false, cond}
+use mathlib.Core.List.{List, [], _∷_}
+use mathlib.Core.Path.{_≡_, refl, sym, _∙_, ap}
+use Prim.Native.Nat.{ℕ, zero, suc, _*_, _^_, _<_}
+use native.Mathlib.Nat.{le-of-suc-le-suc, not-suc-le-zero}
+use native.Mathlib.Omega.{arith}
+use borrow.Author.Tests.{eqb-true, eqb-false, eq-eqb, ne-eqb}
+use lib.Dec.{eqb, lit<}
+use lib.IntN.{ℤ, pos}
+use lib.ListN.{length, getD}
+use Rattle.number.specs.declared.Reading.{Reading}
+use Rattle.number.specs.Integer.{integer, refused}
+use Rattle.number.specs.Real.{real}
+use Rattle.sheet.specs.Lattice.{notNegative}
+use Rattle.sheet.specs.RecordA.{
+  Row,
+  row,
+  fields,
+  judgeRow,
+  firstFault,
+  fault,
+  ranged,
+  inLimits,
+  limits,
+  zoneLimits,
+  groundLimits,
+  heightLimits,
+  headerOf,
+  wholeFault,
+  recordA,
+  stretch,
+  wholeAt,
+  realAt,
+}
+use Rattle.sheet.specs.RecordA.Rule.{words}
+use Rattle.sheet.specs.RecordASteps.{rowAt, headerFrom, cornerFrom}
+use Rattle.sheet.specs.declared.record_a.Checked.the-variants.{Sheet, Refused}
+use Rattle.sheet.specs.declared.record_a.Fault.{Fault}
+use Rattle.sheet.specs.declared.record_a.Limits.{Limits}
+
+-- no fault is found where no row has one
+rows-fine : (block : List ℕ) (rs : List Row) (d : Row) → firstFault block rs .kind ≡ 0 → (i : ℕ) → i < length rs
+    → judgeRow block (getD rs i d) .kind ≡ 0
+rows-fine block [] d z i h = absurd (not-suc-le-zero h)
+rows-fine block (r ∷ rs) d z i h = go i h (rows-fine block rs d) (eqb (judgeRow block r .kind) 0) refl
+  where
+    go : (i : ℕ) → i < length (r ∷ rs)
+        → (firstFault block rs .kind ≡ 0 → (j : ℕ) → j < length rs → judgeRow block (getD rs j d) .kind ≡ 0)
+        → (b : Bool) → eqb (judgeRow block r .kind) 0 ≡ b → judgeRow block (getD (r ∷ rs) i d) .kind ≡ 0
+    go zero h ih true e = eqb-true (judgeRow block r .kind) 0 e
+    go (suc i) h ih true e = ih (rw e at z) i (le-of-suc-le-suc h)
+    go i h ih false e = absurd (eqb-false (judgeRow block r .kind) 0 e (rw e at z))
+
+pub row-fine : (block : List ℕ) → firstFault block fields .kind ≡ 0 → (i : ℕ) → i < 41 → judgeRow block (rowAt i) .kind ≡ 0
+unfolding fields
+row-fine block z i h = rows-fine block fields (row 0 0 words) z i h
+
+-- a reading that its limits let pass is the reading itself
+ranged-value : (l : Limits) (r : Reading) → (l .kind ≡ 0 → ⊥) → ranged l r .kind ≡ 0 → ranged l r .value ≡ r .value
+ranged-value l r n z = go (eqb (r .kind) 0) refl (inLimits l (r .value)) refl
+  where
+    go : (b : Bool) → eqb (r .kind) 0 ≡ b → (c : Bool) → inLimits l (r .value) ≡ c → ranged l r .value ≡ r .value
+    go true e true f = rw (e, f)
+    go true e false f = absurd (n (rw (e, f) at z))
+    go false e c f = rw e
+
+zone-kind : (s : ℕ) → zoneLimits s .kind ≡ 0 → ⊥
+zone-kind s = go (eqb s 0) refl (eqb s 1) refl
+  where
+    go : (b : Bool) → eqb s 0 ≡ b → (c : Bool) → eqb s 1 ≡ c → zoneLimits s .kind ≡ 0 → ⊥
+    go true e c f z = let q : _≡_ {A = ℕ} 9 0 = rw e at z in omega arith
+    go false e true f z = let q : _≡_ {A = ℕ} 9 0 = rw (e, f) at z in omega arith
+    go false e false f z = let q : _≡_ {A = ℕ} 9 0 = rw (e, f) at z in omega arith
+
+ground-kind : (s : ℕ) → groundLimits s .kind ≡ 0 → ⊥
+ground-kind s = go (eqb s 0) refl (eqb s 1) refl
+  where
+    go : (b : Bool) → eqb s 0 ≡ b → (c : Bool) → eqb s 1 ≡ c → groundLimits s .kind ≡ 0 → ⊥
+    go true e c f z = let q : _≡_ {A = ℕ} 9 0 = rw e at z in omega arith
+    go false e true f z = let q : _≡_ {A = ℕ} 9 0 = rw (e, f) at z in omega arith
+    go false e false f z = let q : _≡_ {A = ℕ} 9 0 = rw (e, f) at z in omega arith
+
+height-kind : (v : ℕ) → heightLimits v .kind ≡ 0 → ⊥
+height-kind v = go (eqb v 1) refl
+  where
+    go : (b : Bool) → eqb v 1 ≡ b → heightLimits v .kind ≡ 0 → ⊥
+    go true e z = let q : _≡_ {A = ℕ} 7 0 = rw e at z in omega arith
+    go false e z = let q : _≡_ {A = ℕ} 7 0 = rw e at z in omega arith
+
+module _ (block : List ℕ) (values : List ℤ) (z : firstFault block fields .kind ≡ 0)
+    (read : (i : ℕ) → i < 41 → getD values i (pos 0) ≡ judgeRow block (rowAt i) .value) where
+  -- an integer in fixed limits, in limits by the system, and a spacing
+  whole-is : (i : ℕ) (h : i < 41) (l : Limits) (r : Reading) → judgeRow block (rowAt i) ≡ ranged l r → (l .kind ≡ 0 → ⊥)
+      → getD values i (pos 0) ≡ r .value
+  whole-is i h l r e n =
+      read i h
+      ∙ ap (λ (x : Reading). x .value) e
+      ∙ ranged-value l r n (ap (λ (x : Reading). x .kind) (sym e) ∙ row-fine block z i h)
+
+  number-is : (i : ℕ) (h : i < 41) (l : Limits) (r : Reading) → judgeRow block (rowAt i) ≡ ranged l r → (l .kind ≡ 0 → ⊥)
+      → notNegative (getD values i (pos 0)) ≡ notNegative (r .value)
+  number-is i h l r e n = ap notNegative (whole-is i h l r e n)
+
+  pub header-is : headerFrom values ≡ headerOf block
+  unfolding fields headerOf
+  header-is =
+      λ j.
+      record {
+        level = number-is 1 (lit< tt) (limits 1 3 1 9) (integer (stretch 145 6 block)) refl (λ q. omega arith) j;
+        system = number-is 3 (lit< tt) (limits 0 2 1 9) (integer (stretch 157 6 block)) refl (λ q. omega arith) j;
+        zone = number-is 4 (lit< tt) (zoneLimits (wholeAt 157 block)) (integer (stretch 163 6 block)) refl (zone-kind (wholeAt 157 block)) j;
+        ground =
+            number-is 20 (lit< tt) (groundLimits (wholeAt 157 block)) (integer (stretch 529 6 block)) refl (ground-kind (wholeAt 157 block)) j;
+        vertical = number-is 21 (lit< tt) (limits 1 2 1 9) (integer (stretch 535 6 block)) refl (λ q. omega arith) j;
+        sw = record { x = read 23 (lit< tt) j; y = read 24 (lit< tt) j };
+        nw = record { x = read 25 (lit< tt) j; y = read 26 (lit< tt) j };
+        ne = record { x = read 27 (lit< tt) j; y = read 28 (lit< tt) j };
+        se = record { x = read 29 (lit< tt) j; y = read 30 (lit< tt) j };
+        least = read 31 (lit< tt) j;
+        greatest = read 32 (lit< tt) j;
+        accuracy = number-is 34 (lit< tt) (limits 0 1 1 9) (integer (stretch 811 6 block)) refl (λ q. omega arith) j;
+        xstep = number-is 35 (lit< tt) (limits (10 ^ 9) (9999 * 10 ^ 9) (10 ^ 9) 7) (real (stretch 817 12 block)) refl (λ q. omega arith) j;
+        ystep = number-is 36 (lit< tt) (limits (10 ^ 9) (9999 * 10 ^ 9) (10 ^ 9) 7) (real (stretch 829 12 block)) refl (λ q. omega arith) j;
+        zstep = number-is 37 (lit< tt) (heightLimits (wholeAt 535 block)) (real (stretch 841 12 block)) refl (height-kind (wholeAt 535 block)) j;
+        profiles = number-is 39 (lit< tt) (limits 1 2048 1 7) (integer (stretch 859 6 block)) refl (λ q. omega arith) j;
+      }
+
+-- ---- the verdict, by what the code found
+module _ (block : List ℕ) where
+  pub verdict-length : (length block ≡ 1024 → ⊥) → Refused 1 0 ≡ recordA block
+  unfolding recordA
+  verdict-length h = sym (simp (ne-eqb (length block) 1024 h))
+
+  module _ (h : length block ≡ 1024) where
+    pub verdict-field : (f : Fault) → f ≡ firstFault block fields → (f .kind ≡ 0 → ⊥) → Refused (f .kind) (f .byte) ≡ recordA block
+    unfolding recordA
+    verdict-field f e n =
+        let q : eqb (firstFault block fields .kind) 0 ≡ false = ap (λ (x : Fault). eqb (x .kind) 0) (sym e) ∙ ne-eqb (f .kind) 0 n in
+        sym (simp (eq-eqb (length block) 1024 h, q) (ap (λ (x : Fault). Refused (x .kind) (x .byte)) (sym e)))
+
+    module _ (z : firstFault block fields .kind ≡ 0) where
+      pub verdict-whole : (w : Fault) → w ≡ wholeFault (headerOf block) → (w .kind ≡ 0 → ⊥) → Refused (w .kind) (w .byte) ≡ recordA block
+      unfolding recordA
+      verdict-whole w e n =
+          let q : eqb (wholeFault (headerOf block) .kind) 0 ≡ false = ap (λ (x : Fault). eqb (x .kind) 0) (sym e) ∙ ne-eqb (w .kind) 0 n in
+          sym
+          (simp (eq-eqb (length block) 1024 h, eq-eqb (firstFault block fields .kind) 0 z, q)
+          (ap (λ (x : Fault). Refused (x .kind) (x .byte)) (sym e)))
+
+      pub verdict-sheet : wholeFault (headerOf block) .kind ≡ 0 → Sheet (headerOf block) ≡ recordA block
+      unfolding recordA
+      verdict-sheet e =
+          sym
+          (simp (
+            eq-eqb (length block) 1024 h,
+            eq-eqb (firstFault block fields .kind) 0 z,
+            eq-eqb (wholeFault (headerOf block) .kind) 0 e,
+          ))

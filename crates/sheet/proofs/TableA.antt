@@ -1,0 +1,100 @@
+-- The table of record A as the code walks it: each row stands inside the block, and a row judged by its numbers is judged by its rule.
+use mathlib.Core.Bool.{Bool, true, false, cond}
+use mathlib.Core.List.{List, [], _∷_}
+use mathlib.Core.Path.{_≡_, refl, sym, _∙_, ap, subst}
+use Prim.Native.Nat.{ℕ, suc, _+_, _-_, _≤_, _<_}
+use native.Mathlib.Decide.{ℕ-discrete}
+use native.Mathlib.Numerals.{add-one}
+use native.Mathlib.Omega.{arith}
+use borrow.Author.Tests.{eq-eqb, ne-eqb}
+use lib.Dec.{T, leb, eqb, leb→le}
+use lib.IntN.{ℤ, pos}
+use lib.ListN.{length, take, drop, getD, set, length-set}
+use lib.Seq.{drop-cons, getD-set-same, getD-set-other}
+use Rattle.laws.specs.Sign.{_and_}
+use Rattle.laws.proofs.Tables.{all-at, and-left, and-right}
+use Rattle.number.specs.declared.Reading.{Reading}
+use Rattle.sheet.specs.RecordA.{Rule, Row, row, fields, judge, judgeRow, firstFault, fault, wholeAt, stretch}
+use Rattle.sheet.specs.RecordA.Rule.{words, form, free, whole, zones, grounds, stepped, heights}
+use Rattle.sheet.specs.RecordASteps.{rowAt, codeOf, byOf, fixedOf, limitsBy, judgeBy, Begun}
+use Rattle.sheet.specs.declared.record_a.Limits.{Limits}
+use Rattle.sheet.specs.declared.record_a.Fault.{Fault}
+
+-- every row stands inside the 1,024 bytes
+inside : Row → Bool
+inside r = leb 1 (r .first) and leb (r .first - 1 + r .width) 1024
+
+pub row-inside : (i : ℕ) → i < 41 → (1 ≤ rowAt i .first) × (rowAt i .first - 1 + rowAt i .width ≤ 1024)
+unfolding fields inside
+row-inside i h =
+    let t = all-at inside fields (row 0 0 words) tt i h in
+    (leb→le 1 _ (and-left (leb 1 (rowAt i .first)) _ t), leb→le _ 1024 (and-right (leb 1 (rowAt i .first)) _ t))
+
+pub judge-by : (r : Rule) (s v : ℕ) (f : List ℕ) → judgeBy (codeOf r) (limitsBy (byOf r) (fixedOf r) s v) f ≡ judge r s v f
+judge-by words s v f = refl
+judge-by form s v f = refl
+judge-by free s v f = refl
+judge-by (whole a b k) s v f = refl
+judge-by zones s v f = refl
+judge-by grounds s v f = refl
+judge-by (stepped a b k l) s v f = refl
+judge-by heights s v f = refl
+
+pub judge-at-is : (block : List ℕ) (i system vertical first width code by : ℕ) (fixed l : Limits) → Begun block system vertical
+    → first ≡ rowAt i .first → width ≡ rowAt i .width → code ≡ codeOf (rowAt i .rule) → by ≡ byOf (rowAt i .rule)
+    → fixed ≡ fixedOf (rowAt i .rule) → l ≡ limitsBy by fixed system vertical
+    → judgeBy code l (take (first - 1 + width - (first - 1)) (drop (first - 1) block)) ≡ judgeRow block (rowAt i)
+judge-at-is block i system vertical first width code by fixed l b p q r s t u =
+    let w : first - 1 + width - (first - 1) ≡ width = omega arith in
+    rw (w, u, t, s, r, q, p, b .system-is, b .vertical-is)
+    (judge-by (rowAt i .rule) (wholeAt 157 block) (wholeAt 535 block) (stretch (rowAt i .first) (rowAt i .width) block))
+
+-- ---- the walk, row by row
+pub record Reached (block : List ℕ) (values : List ℤ) (system vertical i : ℕ) : Type 0 where
+  pub begun : Begun block system vertical
+  pub many : length values ≡ 41
+  pub within : i ≤ 41
+  pub left : firstFault block (drop i fields) ≡ firstFault block fields
+  pub read : (j : ℕ) → j < i → getD values j (pos 0) ≡ judgeRow block (rowAt j) .value
+
+rows-left : (i : ℕ) → i < 41 → drop i fields ≡ rowAt i ∷ drop (i + 1) fields
+unfolding fields
+rows-left i h = rw (add-one i) (drop-cons fields i (row 0 0 words) h)
+
+pub reached-start : (block : List ℕ) (values : List ℤ) (system vertical : ℕ) → Begun block system vertical → length values ≡ 41
+    → Reached block values system vertical 0
+reached-start block values system vertical b m =
+    record { begun = b; many = m; within = omega arith; left = refl; read = λ j h. absurd (omega arith) }
+
+module _ (block : List ℕ) (values : List ℤ) (system vertical i : ℕ) (p : Reached block values system vertical i) (h : i < 41)
+    (r : Reading) (is : r ≡ judgeRow block (rowAt i)) where
+  kind-is : judgeRow block (rowAt i) .kind ≡ r .kind
+  kind-is = ap (λ (x : Reading). x .kind) (sym is)
+
+  pub reached-stop : (first : ℕ) → first ≡ rowAt i .first → (r .kind ≡ 0 → ⊥) → fault (r .kind) first ≡ firstFault block fields
+  reached-stop first e f =
+      let g : eqb (judgeRow block (rowAt i) .kind) 0 ≡ false = ap (λ (n : ℕ). eqb n 0) kind-is ∙ ne-eqb (r .kind) 0 f in
+      sym (sym (p .left) ∙ rw (rows-left i h, g, kind-is, e))
+
+  pub reached-turn : r .kind ≡ 0 → Reached block (set values i (r .value)) system vertical (i + 1)
+  reached-turn z =
+      let g : eqb (judgeRow block (rowAt i) .kind) 0 ≡ true = ap (λ (n : ℕ). eqb n 0) kind-is ∙ eq-eqb (r .kind) 0 z in
+      record {
+        begun = p .begun;
+        many = length-set values i (r .value) ∙ p .many;
+        within = omega arith;
+        left = sym (rw (rows-left i h, g)) ∙ p .left;
+        read = λ j k. go j k (ℕ-discrete j i);
+      }
+    where
+      go : (j : ℕ) → j < i + 1 → Dec (j ≡ i) → getD (set values i (r .value)) j (pos 0) ≡ judgeRow block (rowAt j) .value
+      go j k (yes e) =
+          rw e (getD-set-same values i (r .value) (pos 0) (omega (arith, p .many)) ∙ ap (λ (x : Reading). x .value) is)
+      go j k (no f) = getD-set-other values i j (r .value) (pos 0) f ∙ p .read j (omega arith)
+
+pub reached-end : (block : List ℕ) (values : List ℤ) (system vertical i : ℕ) → Reached block values system vertical i → 41 ≤ i
+    → fault 0 0 ≡ firstFault block fields
+unfolding fields
+reached-end block values system vertical i p h =
+    let e : i ≡ 41 = omega (arith, p .within) in
+    ap (λ (n : ℕ). firstFault block (drop n fields)) (sym e) ∙ p .left

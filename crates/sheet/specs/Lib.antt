@@ -1,0 +1,4 @@
+pub mod Lattice
+pub mod Steps
+pub mod RecordA
+pub mod RecordASteps
