@@ -20,6 +20,17 @@ int64_t dem_integer_value(const uint8_t *field, size_t length);
 uint32_t dem_real_kind(const uint8_t *field, size_t length);
 int64_t dem_real_value(const uint8_t *field, size_t length);
 
+/* A record A: a block of 1,024 bytes. Kind: 0 where no rule is broken, else the number of the first broken rule, 1 for another
+ * length. Byte: where that rule stands, counted from 1; 0 where none is broken, and for kind 1. */
+uint32_t dem_record_a_kind(const uint8_t *block, size_t length);
+uint32_t dem_record_a_byte(const uint8_t *block, size_t length);
+
+/* The origin of a record A, 1 to 6; 0 for any other text or length. */
+uint32_t dem_origin(const uint8_t *block, size_t length);
+
+/* How many bytes of a record A, from its first, are the sheet's name; 0 where it is blank, or for another length. */
+size_t dem_name_length(const uint8_t *block, size_t length);
+
 #ifdef __cplusplus
 }
 #endif

@@ -9,6 +9,12 @@ impl Dice {
         Dice { state: seed }
     }
 
+    /// For input `number` of the run with this seed, whatever came before it.
+    pub fn numbered(seed: u64, number: usize) -> Dice {
+        let mut mixer = Dice::new(seed ^ (number as u64).wrapping_mul(0xD1B5_4A32_D192_ED03));
+        Dice::new(mixer.roll())
+    }
+
     pub fn roll(&mut self) -> u64 {
         self.state = self.state.wrapping_add(0x9E37_79B9_7F4A_7C15);
         let mut mixed = self.state;

@@ -1,7 +1,29 @@
 //! The second program: document 01 written down once more, apart from the library
 //! it checks, and as plainly as it can be.
 
+pub mod block;
+pub mod comparing;
 pub mod dice;
 pub mod examples;
+pub mod headers;
+pub mod kind;
+pub mod lattice;
+pub mod lister;
+pub mod load;
+pub mod meaning;
 pub mod number;
+pub mod orders;
+pub mod paper;
+pub mod profile;
+pub mod record_a;
+pub mod record_c;
+pub mod replay;
+pub mod runner;
+pub mod scripts;
+pub mod sender;
+pub mod sheets;
+pub mod streams;
 pub mod texts;
+pub mod turns;
+pub mod write;
+pub mod written;

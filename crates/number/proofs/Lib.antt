@@ -8,3 +8,4 @@ pub mod GrammarParts
 pub mod GrammarForms
 pub mod GrammarValues
 pub mod Grammar
+pub mod Limits

@@ -5,3 +5,5 @@ pub mod Stretches
 pub mod Naturals
 pub mod TableA
 pub mod HeaderA
+pub mod FieldRules
+pub mod RulesA

@@ -2,3 +2,4 @@ pub mod Lattice
 pub mod Steps
 pub mod RecordA
 pub mod RecordASteps
+pub mod RulesA

@@ -18,7 +18,7 @@ pub enum Place {
 }
 
 // A number without its sign. Raised by one before it is turned, so that the least i64 has a size too.
-fn size_of(z: i64) -> u64
+pub fn size_of(z: i64) -> u64
     ensures { λ r. ⌜ r ≡ natAbs z ⌝ }
 {
     if z < 0 {

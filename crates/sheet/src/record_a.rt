@@ -452,7 +452,7 @@ fn fixed_limits(i: usize) -> Limits
     }
 }
 
-fn limits_of(least: u64, greatest: u64, step: u64, kind: u32) -> Limits
+pub fn limits_of(least: u64, greatest: u64, step: u64, kind: u32) -> Limits
     ensures { λ r. ⌜ r ≡ limits least greatest step kind ⌝ }
 {
     Limits {
@@ -463,7 +463,7 @@ fn limits_of(least: u64, greatest: u64, step: u64, kind: u32) -> Limits
     }
 }
 
-fn zone_limits(system: u64) -> Limits
+pub fn zone_limits(system: u64) -> Limits
     ensures { λ r. ⌜ r ≡ zoneLimits system ⌝ }
 {
     if system == 0 {
@@ -475,7 +475,7 @@ fn zone_limits(system: u64) -> Limits
     limits_of(1, 9999, 1, 9)
 }
 
-fn ground_limits(system: u64) -> Limits
+pub fn ground_limits(system: u64) -> Limits
     ensures { λ r. ⌜ r ≡ groundLimits system ⌝ }
 {
     if system == 0 {
@@ -487,7 +487,7 @@ fn ground_limits(system: u64) -> Limits
     limits_of(1, 2, 1, 9)
 }
 
-fn height_limits(vertical: u64) -> Limits
+pub fn height_limits(vertical: u64) -> Limits
     ensures { λ r. ⌜ r ≡ heightLimits vertical ⌝ }
 {
     if vertical == 1 {
@@ -549,7 +549,7 @@ pub fn not_negative(z: i64) -> u64
     z as u64
 }
 
-fn in_range(l: Limits, v: u64) -> bool
+pub fn in_range(l: Limits, v: u64) -> bool
     ensures { λ r. ⌜ r ≡ inRange l v ⌝ }
 {
     let step = l.step;
@@ -709,7 +709,7 @@ fn header_from(values: &[i64]) -> Header
     }
 }
 
-fn lesser_of(a: i64, b: i64) -> i64
+pub fn lesser_of(a: i64, b: i64) -> i64
     ensures { λ r. ⌜ r ≡ lesser a b ⌝ }
 {
     if b < a {
@@ -718,7 +718,7 @@ fn lesser_of(a: i64, b: i64) -> i64
     a
 }
 
-fn greater_of(a: i64, b: i64) -> i64
+pub fn greater_of(a: i64, b: i64) -> i64
     ensures { λ r. ⌜ r ≡ greater a b ⌝ }
 {
     if a < b {

@@ -1,0 +1,139 @@
+-- A block of a profile judged: a fault is its refusal, and without one its step is the definition's verdict.
+use mathlib.Core.Bool.{Bool, true, false, cond}
+use mathlib.Core.List.{List, []}
+use mathlib.Core.Path.{_≡_, refl, sym, _∙_, ap, subst⁻¹}
+use Prim.Native.Nat.{ℕ, _+_, _*_, _-_, _≤_, _<_}
+use native.Mathlib.Omega.{arith}
+use borrow.Author.Tests.{eq-eqb, ne-eqb}
+use lib.Dec.{eqb}
+use lib.IntN.{ℤ, natAbs}
+use lib.ListN.{length, take}
+use Rattle.sheet.specs.RecordA.{fault}
+use Rattle.sheet.specs.declared.record_a.Fault.{Fault}
+use Rattle.profile.specs.RecordC.{recordC}
+use Rattle.session.specs.declared.Profile.{Profile}
+use Rattle.session.specs.declared.Session.{Session}
+use Rattle.load.specs.Posts.{noTally, tallyAll, heights, postsOf}
+use Rattle.load.specs.Deliver.{Verdict, wrong, fills, unless, finishedSession, filling, heightsHere, zOf, cellsOf, nextCell}
+use Rattle.load.specs.Steps.{fillStep, finishStep, stepVerdict, Filling, Placing, Ready, BlockScanned, Stepped}
+use Rattle.load.specs.declared.posts.Scan.{Scan}
+use Rattle.load.specs.declared.posts.Tally.{Tally}
+use Rattle.load.specs.declared.steps.Step.{Step}
+use Rattle.load.specs.declared.steps.Step.the-variants.{Wrong, Fills}
+use Rattle.load.proofs.Heights.{heights-length}
+use Rattle.load.proofs.Scans.{posts-length, scan-few, scan-fair}
+use Rattle.load.proofs.Tallies.{none-fair}
+use Rattle.load.proofs.Filled.{fill-verdict, fill-at, cell-room}
+
+-- a refusal fills no cell
+pub refused-step : (s : Session) (v : Verdict) (before after : List ℤ) (kind block byte : ℕ) → length after ≡ length before
+    → wrong kind block byte ≡ v → Stepped s v before after (Wrong kind block byte)
+refused-step s v before after kind block byte k e =
+    record {
+      verdict-is = e;
+      kept = k;
+      fits = λ next at n q. let z : _≡_ {A = ℕ} 0 1 = cc in absurd (omega arith);
+    }
+
+module _ (f : Fault) (number : ℕ) (v : Verdict) (kind byte : ℕ) (is : fault kind byte ≡ f) where
+  pub fault-refused : (kind ≡ 0 → ⊥) → wrong kind number byte ≡ unless f number v
+  fault-refused h =
+      let q : eqb (f .kind) 0 ≡ false = ap (λ (x : Fault). eqb (x .kind) 0) (sym is) ∙ ne-eqb kind 0 h in
+      ap (λ (x : Fault). wrong (x .kind) number (x .byte)) is ∙ sym (rw q)
+
+  pub fault-none : kind ≡ 0 → v ≡ unless f number v
+  fault-none h =
+      let q : eqb (f .kind) 0 ≡ true = ap (λ (x : Fault). eqb (x .kind) 0) (sym is) ∙ eq-eqb kind 0 h in
+      sym (rw q)
+
+-- the tally of a block scanned without fault
+pub record SmallTally (n : ℕ) (u : Tally) : Type 0 where
+  pub count : u .filled ≤ n
+  pub low-size : 0 < u .filled → natAbs (u .low) ≤ 4276700
+  pub high-size : 0 < u .filled → natAbs (u .high) ≤ 4276700
+
+pub scanned-tally : (s : Session) (datum : ℤ) (byte n : ℕ) (block : List ℕ) (before after : List ℤ) (r : Scan)
+    → BlockScanned block byte n (zOf (s .header)) datum before after r → r .kind ≡ 0 → Ready s → natAbs datum ≤ 1000000
+    → SmallTally n (r .tally)
+scanned-tally s datum byte n block before after r sc e ready most =
+    let hs = heights (zOf (s .header)) datum (postsOf n byte block) in
+    let fair = scan-fair n byte block (zOf (s .header)) datum noTally (sc .posts-fine e) (ready .z-most) most none-fair in
+    let few : tallyAll noTally hs .filled ≤ 0 + n = scan-few n byte block (zOf (s .header)) datum noTally in
+    record {
+      count = rw (sc .tally-is e) (omega arith);
+      low-size = rw (sc .tally-is e) (λ h. fair h .low-most);
+      high-size = rw (sc .tally-is e) (λ h. fair h .high-most);
+    }
+
+-- what is known of a profile whose next n posts were scanned without fault
+pub record Scannable (s : Session) (p : Profile) (n : ℕ) : Type 0 where
+  pub ready : Ready s
+  pub datum-most : natAbs (p .datum) ≤ 1000000
+  pub read-most : p .read + n ≤ p .posts
+  pub posts-most : p .posts ≤ 2048
+  pub filled-most : p .filled ≤ p .read
+  pub profile-low : 0 < p .filled → natAbs (p .low) ≤ 4276700
+  pub profile-high : 0 < p .filled → natAbs (p .high) ≤ 4276700
+
+module _ (s : Session) (p : Profile) (byte n : ℕ) (block : List ℕ) (before after : List ℤ) (r : Scan)
+    (sc : BlockScanned block byte n (zOf (s .header)) (p .datum) before after r) (e : r .kind ≡ 0) (k : Scannable s p n) where
+  pub scanned-filling : Filling s p n (r .tally)
+  scanned-filling =
+      let f = scanned-tally s (p .datum) byte n block before after r sc e (k .ready) (k .datum-most) in
+      record {
+        ready = k .ready;
+        count = f .count;
+        low-size = f .low-size;
+        high-size = f .high-size;
+        read-most = k .read-most;
+        posts-most = k .posts-most;
+        filled-most = k .filled-most;
+        profile-low = k .profile-low;
+        profile-high = k .profile-high;
+      }
+
+  module _ (number column : ℕ) (g : Placing s number column p) (few : n ≤ 170) (st : Step)
+      (is : st ≡ fillStep s number column p n (r .tally)) where
+    pub filled-step : (v : Verdict) → filling s number column p (heightsHere s p byte n block) ≡ v → Stepped s v before after st
+    filled-step v q =
+        let hs = heights (zOf (s .header)) (p .datum) (postsOf n byte block) in
+        let long : n ≡ length hs = sym (heights-length (zOf (s .header)) (p .datum) (postsOf n byte block) ∙ posts-length n byte block) in
+        record {
+          verdict-is =
+              ap (stepVerdict after) is
+              ∙ fill-verdict s number column p n (r .tally) hs after long (sc .tally-is e) (sc .heights-are e)
+              ∙ q;
+          kept = sc .kept;
+          fits = λ next at m w. fits (fill-at s number column p n (r .tally) next at m (sym is ∙ w));
+        }
+      where
+        fits : {at m : ℕ} → (at ≡ nextCell s column p) × (m ≡ n) → (m ≤ 170) × (at + m ≤ cellsOf (s .header))
+        fits w = (omega arith, omega (arith, w .0, w .1, cell-room s number column p g n (k .read-most)))
+
+-- a step judged for one verdict is judged for the same verdict in another form
+pub same-step : (s : Session) {v w : Verdict} (before after : List ℤ) {r : Step} → v ≡ w → Stepped s v before after r
+    → Stepped s w before after r
+same-step s before after e st = record { verdict-is = st .verdict-is ∙ e; kept = st .kept; fits = st .fits }
+
+pub finish-stepped : (s : Session) (number : ℕ) (block : List ℕ) (scratch : List ℤ) (st : Step) → st ≡ finishStep s number block
+    → Stepped s (unless (recordC block) number (fills (finishedSession s) 0 [])) scratch scratch st
+finish-stepped s number block scratch st is = go (eqb (recordC block .kind) 0) refl
+  where
+    go : (b : Bool) → eqb (recordC block .kind) 0 ≡ b
+        → Stepped s (unless (recordC block) number (fills (finishedSession s) 0 [])) scratch scratch st
+    go true e =
+        let w : st ≡ Fills (finishedSession s) 0 0 = is ∙ rw e in
+        record {
+          verdict-is = ap (stepVerdict scratch) w ∙ sym (rw e);
+          kept = refl;
+          fits =
+              λ next at n q.
+              let z : Fills (finishedSession s) 0 0 ≡ Fills next at n = sym w ∙ q in
+              let x : 0 ≡ at = cc in
+              let y : 0 ≡ n = cc in
+              (omega arith, omega arith);
+        }
+    go false e =
+        let w : st ≡ Wrong (recordC block .kind) number (recordC block .byte) = is ∙ rw e in
+        subst⁻¹ (Stepped s _ scratch scratch) w
+        (refused-step s _ scratch scratch (recordC block .kind) number (recordC block .byte) refl (sym (rw e)))

@@ -1,0 +1,69 @@
+-- An open profile goes on, the next one opens, or record C ends the sheet.
+use mathlib.Core.Bool.{not}
+use mathlib.Core.Path.{_≡_, sym, ap}
+use native.Mathlib.Omega.{arith}
+use borrow.Author.Tests.{eq-eqb, ne-eqb, lt-ltb, le-ltb}
+use Rattle.load.proofs.Judged.{same-step, finish-stepped}
+use borrow.Author.Needs.{needs}
+use Rattle.load.proofs.blocks.later_block.Statement.{statement}
+use Rattle.load.proofs.blocks.later_block.Tie as tie
+
+further-block-requires : tie.Need-further-block-requires
+further-block-requires c κs =
+    let o = c .before .before .before .before .before .before in
+    record {
+      ready = o .pre .ready;
+      busy-is = ap not (ne-eqb _ _ (c .before .if1 .taken));
+      taken-is = o .pre .taken-is;
+      blocks = omega (arith, o .pre .ready .blocks-most, o .pre .taken-is);
+      long = o .pre .long;
+      room = o .pre .room;
+    }
+
+same-length : tie.Need-same-length
+same-length c = search needs
+
+returns : tie.Need-returns
+returns c =
+    let o = c .before .before .before .before .before .before .before .before in
+    same-step (o .args .s) (o .args .scratch .now) (c .before .further-block .last .1 .1 .1 .0)
+    (sym (simp (ap not (ne-eqb _ _ (c .before .before .before .if1 .taken)))))
+    (c .before .further-block .ensures)
+
+start-profile-requires : tie.Need-start-profile-requires
+start-profile-requires c κs =
+    let o = c .before .before .before .before .before .before .before .before .before in
+    (o .pre, (ap not (eq-eqb _ _ (c .before .before .before .before .if1 .left)), c .before .if2 .taken))
+
+same-length-2 : tie.Need-same-length-2
+same-length-2 c = search needs
+
+returns-2 : tie.Need-returns-2
+returns-2 c =
+    let o = c .before .before .before .before .before .before .before .before .before .before .before in
+    same-step (o .args .s) (o .args .scratch .now) (c .before .start-profile .last .1 .1 .1 .0)
+    (sym (simp (ap not (eq-eqb _ _ (c .before .before .before .before .before .before .if1 .left)), lt-ltb _ _ (c .before .before .before .if2 .taken))))
+    (c .before .start-profile .ensures)
+
+finish-sheet-requires : tie.Need-finish-sheet-requires
+finish-sheet-requires c κs = search needs
+
+returns-3 : tie.Need-returns-3
+returns-3 c =
+    let o = c .before .before .before .before .before .before .before .before .before in
+    same-step (o .args .s) (o .args .scratch .now) (o .args .scratch .now)
+    (sym (simp (ap not (eq-eqb _ _ (c .before .before .before .before .if1 .left)), le-ltb _ _ (c .before .if2 .left))))
+    (finish-stepped (o .args .s) (o .args .number) (o .args .block .now) (o .args .scratch .now) (c .finish-sheet .result) (c .finish-sheet .ensures))
+
+pub later-block-spec : {M : Type 1} → statement M
+later-block-spec =
+    tie.close
+    (tie.spec
+    further-block-requires
+    same-length
+    returns
+    start-profile-requires
+    same-length-2
+    returns-2
+    finish-sheet-requires
+    returns-3)

@@ -1,0 +1,4 @@
+pub mod Posts
+pub mod Scan
+pub mod Deliver
+pub mod Steps

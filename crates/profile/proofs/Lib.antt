@@ -1,0 +1,4 @@
+pub mod Parts
+pub mod Datum
+pub mod Verdicts
+pub mod RecordLaws

@@ -1,0 +1,33 @@
+-- A field's stretch as the code cuts it out, and an error's value by the machine's tests of its sign.
+use mathlib.Core.Bool.{true, false}
+use mathlib.Core.List.{List}
+use mathlib.Core.Path.{_≡_, refl, ap}
+use Prim.Native.Nat.{ℕ, _+_, _-_, _<_}
+use native.Mathlib.Omega.{arith}
+use borrow.Author.Tests.{ltb-true, ltb-false, le-ltb, eq-eqb, ne-eqb}
+use lib.IntN.{ℤ, pos, negsuc}
+use lib.ListN.{take, drop}
+use lib.Signed.{ltZ}
+use Rattle.laws.proofs.Tests.{clash}
+use Rattle.sheet.specs.RecordA.{stretch}
+use Rattle.profile.specs.RecordC.{isNegative, isZero}
+
+pub cut-out : (width byte : ℕ) (block : List ℕ)
+    → take (byte - 1 + width - (byte - 1)) (drop (byte - 1) block) ≡ stretch byte width block
+cut-out width byte block =
+    let e : byte - 1 + width - (byte - 1) ≡ width = omega arith in
+    ap (λ (n : ℕ). take n (drop (byte - 1) block)) e
+
+pub negative-is : (z : ℤ) → ltZ z (pos 0) ≡ isNegative z
+negative-is (pos n) = le-ltb n 0 (omega arith)
+negative-is (negsuc n) = refl
+
+pub above-zero : (z : ℤ) → ltZ (pos 0) z ≡ true → isZero z ≡ false
+above-zero (pos n) t =
+    let h : 0 < n = ltb-true 0 n t in
+    ne-eqb n 0 (λ e. omega arith)
+above-zero (negsuc n) t = refl
+
+pub at-zero : (z : ℤ) → ltZ z (pos 0) ≡ false → ltZ (pos 0) z ≡ false → isZero z ≡ true
+at-zero (pos n) s t = eq-eqb n 0 (omega (arith, ltb-false 0 n t))
+at-zero (negsuc n) s t = clash s

@@ -1,0 +1,170 @@
+-- A head is answered, and a record C passes, exactly when the block is 1,024 bytes and no field is at fault; and the bounds of what a head says.
+use mathlib.Core.Bool.{Bool, true, cond}
+use mathlib.Core.List.{List, [], _∷_}
+use mathlib.Core.Logic.{_↔_}
+use mathlib.Core.Path.{_≡_, refl, sym, ap, subst}
+use Prim.Native.Nat.{ℕ, suc, _*_, _/_, _%_, _^_, _≤_}
+use native.Mathlib.Nat.{div-le-of-le-mul}
+use native.Mathlib.Omega.{arith}
+use borrow.Author.Tests.{leb-true, eqb-true, eqb-false, eq-eqb}
+use lib.Dec.{leb, eqb}
+use lib.IntN.{ℤ, pos, negsuc, natAbs}
+use lib.ListN.{length, drop}
+use Rattle.laws.specs.Sign.{_and_}
+use Rattle.laws.proofs.Integers.{size-minus}
+use Rattle.laws.proofs.Tests.{clash, and-first, and-second}
+use Rattle.number.specs.declared.Reading.{Reading}
+use Rattle.number.specs.Bytes.{isBlank}
+use Rattle.number.specs.Grammar.{every}
+use Rattle.number.specs.Integer.{integer, refused}
+use Rattle.number.specs.Real.{real}
+use Rattle.number.proofs.GrammarParts.{by-test}
+use Rattle.number.proofs.Limits.{Limited, real-limits}
+use Rattle.sheet.specs.Lattice.{notNegative}
+use Rattle.sheet.specs.RecordA.{inLimits, limits, stretch, fault, realAt}
+use Rattle.sheet.specs.declared.record_a.Limits.{Limits}
+use Rattle.sheet.specs.declared.record_a.Fault.{Fault}
+use Rattle.profile.specs.RecordB.{Judged, firstOf, headFields, headFault, headOf, recordB, isDatum, hundredths}
+use Rattle.profile.specs.RecordC.{fieldsC, restBlank, recordC}
+use Rattle.profile.specs.declared.record_b.Head.{Head}
+use Rattle.profile.specs.declared.record_b.Headed.the-variants.{Profile, Refused}
+
+-- every field's reading has kind 0
+abbrev pub AllRead : List Judged → Type 0
+AllRead [] = Unit {0}
+AllRead (j ∷ js) = (j .reading .kind ≡ 0) × AllRead js
+
+all-read : (js : List Judged) → firstOf js .kind ≡ 0 → AllRead js
+all-read [] z = tt
+all-read (j ∷ js) z =
+    let go = all-read js in
+    by-test (eqb (j .reading .kind) 0) (λ e. (eqb-true (j .reading .kind) 0 e, go (rw e at z)))
+    (λ e. absurd (eqb-false (j .reading .kind) 0 e (rw e at z)))
+
+none-first : (js : List Judged) → AllRead js → firstOf js ≡ fault 0 0
+none-first [] r = refl
+none-first (j ∷ js) r = rw (eq-eqb (j .reading .kind) 0 (r .0)) (none-first js (r .1))
+
+module _ (block : List ℕ) where
+  abbrev long : Bool
+  long = eqb (length block) 1024
+
+  -- a fault of the length, or one that comes after it
+  length-first : (f : Fault) → cond long f (fault 1 0) .kind ≡ 0 → (length block ≡ 1024) × (f .kind ≡ 0)
+  length-first f z =
+      by-test long (λ e. (eqb-true (length block) 1024 e, rw e at z))
+      (λ e.
+      let q : _≡_ {A = ℕ} 1 0 = rw e at z in
+      absurd (omega arith))
+
+  module _ (number : ℕ) (h : Head) where
+    -- the length, the nine readings, and then the head is what the fields say
+    abbrev pub HeadRead : Type 0
+    HeadRead = (length block ≡ 1024) × AllRead (headFields number block) × (h ≡ headOf block)
+
+    head-read : recordB number block ≡ Profile h → HeadRead
+    unfolding recordB
+    head-read p =
+        by-test (eqb (headFault number block .kind) 0)
+        (λ e.
+        let q : Profile (headOf block) ≡ Profile h = rw e at p in
+        let k : h ≡ headOf block = cc in
+        let l = length-first (firstOf (headFields number block)) (eqb-true (headFault number block .kind) 0 e) in
+        (l .0, all-read (headFields number block) (l .1), k))
+        (λ e.
+        let q : Refused (headFault number block .kind) (headFault number block .byte) ≡ Profile h = rw e at p in
+        let z : _≡_ {A = ℕ} 0 1 = cc in
+        absurd (omega arith))
+
+    read-head : HeadRead → recordB number block ≡ Profile h
+    unfolding recordB
+    read-head r =
+        let e : headFault number block ≡ fault 0 0 =
+        rw (eq-eqb (length block) 1024 (r .0)) (none-first (headFields number block) (r .1))
+        in
+        simp e (ap Profile (sym (r .2)))
+
+    pub head-exactly : (recordB number block ≡ Profile h) ↔ HeadRead
+    head-exactly = (head-read, read-head)
+
+  -- the length, the ten readings and the blank rest
+  abbrev pub CRead : Type 0
+  CRead = (length block ≡ 1024) × AllRead (fieldsC block) × (every isBlank (drop 60 block) ≡ true)
+
+  abbrev fieldFault : Fault
+  fieldFault = firstOf (fieldsC block)
+
+  -- a fault of the rest comes after those of the fields
+  rest-last : cond (eqb (fieldFault .kind) 0) (restBlank block) fieldFault .kind ≡ 0
+      → (fieldFault .kind ≡ 0) × (every isBlank (drop 60 block) ≡ true)
+  rest-last z =
+      by-test (eqb (fieldFault .kind) 0)
+      (λ e.
+      by-test (every isBlank (drop 60 block)) (λ b. (eqb-true (fieldFault .kind) 0 e, b))
+      (λ b.
+      let q : _≡_ {A = ℕ} 5 0 = rw (e, b) at z in
+      absurd (omega arith)))
+      (λ e. absurd (eqb-false (fieldFault .kind) 0 e (rw e at z)))
+
+  c-read : recordC block ≡ fault 0 0 → CRead
+  unfolding recordC
+  c-read p =
+      let l = length-first (cond (eqb (fieldFault .kind) 0) (restBlank block) fieldFault) (ap (λ (f : Fault). f .kind) p) in
+      let r = rest-last (l .1) in
+      (l .0, all-read (fieldsC block) (r .0), r .1)
+
+  read-c : CRead → recordC block ≡ fault 0 0
+  unfolding recordC
+  read-c r = simp (eq-eqb (length block) 1024 (r .0), none-first (fieldsC block) (r .1), r .2)
+
+  pub record-c-exactly : (recordC block ≡ fault 0 0) ↔ CRead
+  record-c-exactly = (c-read, read-c)
+
+-- a field with a rule of its own reads, and its value keeps the rule
+own-rule : (t : Bool) (k : ℕ) (r : Reading) → (k ≡ 0 → ⊥) → cond (eqb (r .kind) 0) (cond t r (refused k)) r .kind ≡ 0
+    → (r .kind ≡ 0) × (t ≡ true)
+own-rule t k r n z =
+    by-test (eqb (r .kind) 0) (λ e. (eqb-true (r .kind) 0 e, by-test t (λ b. b) (λ b. absurd (n (rw (e, b) at z)))))
+    (λ e. absurd (eqb-false (r .kind) 0 e (rw e at z)))
+
+in-limits : (l : Limits) (z : ℤ) → inLimits l z ≡ true → (l .least ≤ notNegative z) × (notNegative z ≤ l .greatest)
+in-limits l (pos v) t =
+    let u = and-second (leb (l .least) v) (leb v (l .greatest) and eqb (v % l .step) 0) t in (
+      leb-true (l .least) v (and-first (leb (l .least) v) (leb v (l .greatest) and eqb (v % l .step) 0) t),
+      leb-true v (l .greatest) (and-first (leb v (l .greatest)) (eqb (v % l .step) 0) u),
+    )
+in-limits l (negsuc v) t = clash (sym t)
+
+hundredths-size : (z : ℤ) → natAbs (hundredths z) ≡ natAbs z / 10 ^ 7
+hundredths-size (pos n) = refl
+hundredths-size (negsuc n) = size-minus (pos (suc n / 10 ^ 7))
+
+datum-size : (z : ℤ) → isDatum z ≡ true → natAbs (hundredths z) ≤ 1000000
+datum-size z t =
+    let le : natAbs z ≤ 10000 * 10 ^ 9 = leb-true (natAbs z) (10000 * 10 ^ 9) (and-second (eqb (natAbs z % 10 ^ 7) 0) (leb (natAbs z) (10000 * 10 ^ 9)) t) in
+    rw (hundredths-size z) (div-le-of-le-mul (10 ^ 7) (omega arith))
+
+module _ (number : ℕ) (block : List ℕ) (h : Head) (p : recordB number block ≡ Profile h) where
+  abbrev nine : AllRead (headFields number block)
+  nine = head-read block number h p .1
+
+  head-is : headOf block ≡ h
+  head-is = sym (head-read block number h p .2)
+
+  pub head-bounds : (1 ≤ h .posts) × (h .posts ≤ 2048) × (natAbs (h .datum) ≤ 1000000)
+  head-bounds =
+      let posts = own-rule (inLimits (limits 1 2048 1 7) (integer (stretch 13 6 block) .value)) 7 (integer (stretch 13 6 block)) (λ e. omega arith) (nine .1 .1 .0) in
+      let datum = own-rule (isDatum (realAt 73 block)) 7 (real (stretch 73 24 block)) (λ e. omega arith) (nine .1 .1 .1 .1 .1 .1 .0) in
+      let range = in-limits (limits 1 2048 1 7) (integer (stretch 13 6 block) .value) (posts .1) in
+      subst (λ (x : Head). (1 ≤ x .posts) × (x .posts ≤ 2048) × (natAbs (x .datum) ≤ 1000000)) head-is
+      (range .0, range .1, datum-size (realAt 73 block) (datum .1))
+
+  pub head-reals : Limited (h .x) × Limited (h .y) × Limited (h .least) × Limited (h .greatest)
+  head-reals =
+      let reals = nine .1 .1 .1 .1 in
+      subst (λ (x : Head). Limited (x .x) × Limited (x .y) × Limited (x .least) × Limited (x .greatest)) head-is (
+        real-limits (stretch 25 24 block) (reals .0),
+        real-limits (stretch 49 24 block) (reals .1 .0),
+        real-limits (stretch 97 24 block) (reals .1 .1 .1 .0),
+        real-limits (stretch 121 24 block) (reals .1 .1 .1 .1 .0),
+      )

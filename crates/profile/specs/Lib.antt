@@ -1,0 +1,3 @@
+pub mod RecordB
+pub mod RecordC
+pub mod Steps

@@ -1,0 +1,61 @@
+-- Document 01, "Record C, only with accuracy 1, is one block of ten six-byte integers (002), then blanks".
+use mathlib.Core.Bool.{Bool, true, false, cond, not}
+use mathlib.Core.List.{List, [], _∷_, _++_}
+use Prim.Native.Nat.{ℕ, zero, suc, _+_}
+use lib.IntN.{ℤ, pos, negsuc}
+use lib.Dec.{leb, eqb}
+use lib.ListN.{length, drop}
+use Rattle.laws.specs.Sign.{_and_}
+use Rattle.number.specs.declared.Reading.{Reading}
+use Rattle.number.specs.Bytes.{isBlank}
+use Rattle.number.specs.Grammar.{every}
+use Rattle.number.specs.Integer.{integer, refused}
+use Rattle.sheet.specs.RecordA.{stretch, limits, ranged, wholeAt, fault}
+use Rattle.sheet.specs.declared.record_a.Fault.{Fault}
+use Rattle.profile.specs.RecordB.{Judged, at, firstOf}
+
+-- "Codes 0 or 1 (9)"
+abbrev pub codeField : ℕ → List ℕ → Judged
+codeField byte block = at byte (ranged (limits 0 1 1 9) (integer (stretch byte 6 block)))
+
+abbrev pub isNegative : ℤ → Bool
+isNegative (pos n) = false
+isNegative (negsuc n) = true
+
+abbrev pub isZero : ℤ → Bool
+isZero (pos n) = eqb n 0
+isZero (negsuc n) = false
+
+-- "the rest not negative (7), then zero under code 0 (9)"
+abbrev pub errorReading : ℕ → Reading → Reading
+errorReading code r =
+    cond (eqb (r .kind) 0)
+    (cond (isNegative (r .value)) (refused 7) (cond (eqb code 0 and not (isZero (r .value))) (refused 9) r))
+    r
+
+abbrev pub errorField : ℕ → ℕ → List ℕ → Judged
+errorField code byte block = at byte (errorReading code (integer (stretch byte 6 block)))
+
+-- "code, three errors, count": five fields from a byte
+abbrev pub halfFields : ℕ → List ℕ → List Judged
+halfFields byte block =
+    codeField byte block
+    ∷ errorField (wholeAt byte block) (byte + 6) block
+    ∷ errorField (wholeAt byte block) (byte + 12) block
+    ∷ errorField (wholeAt byte block) (byte + 18) block
+    ∷ errorField (wholeAt byte block) (byte + 24) block
+    ∷ []
+
+-- ".. twice over", ".. then blanks" (5)
+abbrev pub fieldsC : List ℕ → List Judged
+fieldsC block = halfFields 1 block ++ halfFields 31 block
+
+abbrev pub restBlank : List ℕ → Fault
+restBlank block = cond (every isBlank (drop 60 block)) (fault 0 0) (fault 5 61)
+
+-- the first fault of a record C; a block of another length is 1 at 0
+unfoldable pub recordC : List ℕ → Fault
+recordC block =
+    cond (eqb (length block) 1024)
+    (cond (eqb (firstOf (fieldsC block) .kind) 0) (restBlank block) (firstOf (fieldsC block)))
+    (fault 1 0)

@@ -1,0 +1,71 @@
+-- How the code judges a block: its fields from the last to the first, each before those behind it. No paper's sentence is
+-- stated here; the public promises cite `recordB` and `recordC` alone.
+use mathlib.Core.Bool.{cond}
+use mathlib.Core.List.{List}
+use mathlib.Core.Path.{_≡_}
+use Prim.Native.Nat.{ℕ, _+_, _≤_}
+use lib.Dec.{eqb}
+use lib.ListN.{length}
+use Rattle.number.specs.declared.Reading.{Reading}
+use Rattle.number.specs.Integer.{integer}
+use Rattle.number.specs.Real.{real}
+use Rattle.sheet.specs.Lattice.{notNegative}
+use Rattle.sheet.specs.RecordA.{stretch, limits, ranged, wholeAt, fault}
+use Rattle.sheet.specs.declared.record_a.Fault.{Fault}
+use Rattle.profile.specs.RecordB.{datumField, hundredths}
+use Rattle.profile.specs.RecordC.{errorReading}
+use Rattle.profile.specs.declared.record_b.Head.{Head}
+use Rattle.profile.specs.declared.record_b.Reals.{Reals}
+
+-- a stretch of this width, from a byte counted from 1, lies in a block of the right length
+pub record Inside (width : ℕ) (block : List ℕ) (byte : ℕ) : Type 0 where
+  pub long : length block ≡ 1024
+  pub from : 1 ≤ byte
+  pub to : byte + width ≤ 1025
+
+-- the fault of a field, or the first of those behind it
+abbrev pub faultOr : Reading → ℕ → Fault → Fault
+faultOr r byte rest = cond (eqb (r .kind) 0) rest (fault (r .kind) byte)
+
+abbrev pub realsOf : List ℕ → Reals
+realsOf block =
+    record {
+      x = real (stretch 25 24 block);
+      y = real (stretch 49 24 block);
+      datum = real (stretch 73 24 block);
+      least = real (stretch 97 24 block);
+      greatest = real (stretch 121 24 block);
+    }
+
+abbrev pub realsFault : Reals → Fault
+realsFault s =
+    faultOr (s .x) 25
+    (faultOr (s .y) 49 (faultOr (datumField (s .datum)) 73 (faultOr (s .least) 97 (faultOr (s .greatest) 121 (fault 0 0)))))
+
+abbrev pub countsFault : ℕ → List ℕ → Reading → Fault → Fault
+countsFault number block posts rest =
+    faultOr (ranged (limits 1 1 1 9) (integer (stretch 1 6 block))) 1
+    (faultOr (ranged (limits number number 1 9) (integer (stretch 7 6 block))) 7
+    (faultOr (ranged (limits 1 2048 1 7) posts) 13 (faultOr (ranged (limits 1 1 1 9) (integer (stretch 19 6 block))) 19 rest)))
+
+abbrev pub headFrom : Reading → Reals → Head
+headFrom posts s =
+    record {
+      posts = notNegative (posts .value);
+      x = s .x .value;
+      y = s .y .value;
+      datum = hundredths (s .datum .value);
+      least = s .least .value;
+      greatest = s .greatest .value;
+    }
+
+abbrev pub errorFault : ℕ → ℕ → List ℕ → Fault → Fault
+errorFault code byte block rest = faultOr (errorReading code (integer (stretch byte 6 block))) byte rest
+
+-- one half of record C, before what stands behind it
+abbrev pub halfFault : ℕ → List ℕ → Fault → Fault
+halfFault byte block rest =
+    faultOr (ranged (limits 0 1 1 9) (integer (stretch byte 6 block))) byte
+    (errorFault (wholeAt byte block) (byte + 6) block
+    (errorFault (wholeAt byte block) (byte + 12) block
+    (errorFault (wholeAt byte block) (byte + 18) block (errorFault (wholeAt byte block) (byte + 24) block rest))))

@@ -1,0 +1,76 @@
+// Integer fields of a block, each judged before the fields behind it: the fault that stands first is the one that is kept.
+use number::Reading;
+use sheet::record_a;
+use sheet::record_a::Fault;
+use sheet::record_a::Limits;
+ghost use mathlib.Core.Path.{_≡_};
+ghost use lib.ListN.{drop};
+ghost use Rattle.number.specs.Bytes.{isBlank};
+ghost use Rattle.number.specs.Grammar.{every};
+ghost use Rattle.number.specs.Integer.{integer};
+ghost use Rattle.sheet.specs.RecordA.{stretch, ranged, fault, limits};
+ghost use Rattle.profile.specs.Steps.{Inside, faultOr};
+
+pub(crate) fn no_fault() -> Fault
+    ensures { λ f. ⌜ f ≡ fault 0 0 ⌝ }
+{
+    Fault { kind: 0, byte: 0 }
+}
+
+pub(crate) fn limits_of(least: u64, greatest: u64, kind: u32) -> Limits
+    ensures { λ l. ⌜ l ≡ limits least greatest 1 kind ⌝ }
+{
+    Limits {
+        least,
+        greatest,
+        step: 1,
+        kind,
+    }
+}
+
+// The fault of a field, or the first of those behind it.
+pub(crate) fn fault_or(r: Reading, byte: u32, rest: Fault) -> Fault
+    ensures { λ f. ⌜ f ≡ faultOr r byte rest ⌝ }
+{
+    if r.kind == 0 {
+        return rest;
+    }
+    Fault { kind: r.kind, byte }
+}
+
+pub(crate) fn integer_at(block: &[u8], byte: u32) -> Reading
+    requires { ⌜ Inside 6 (now block) byte ⌝ }
+    ensures { λ r. ⌜ r ≡ integer (stretch byte 6 (now (block .entry))) ⌝ }
+{
+    let start = byte as usize - 1;
+    let end = start + 6;
+    number::read_integer(&block[start..end])
+}
+
+// An integer that was read, in its limits.
+pub(crate) fn judge(l: Limits, r: Reading, byte: u32, rest: Fault) -> Fault
+    ensures { λ f. ⌜ f ≡ faultOr (ranged l r) byte rest ⌝ }
+{
+    fault_or(record_a::read_ranged(l, r), byte, rest)
+}
+
+pub(crate) fn judge_at(l: Limits, block: &[u8], byte: u32, rest: Fault) -> Fault
+    requires { ⌜ Inside 6 (now block) byte ⌝ }
+    ensures { λ f. ⌜ f ≡ faultOr (ranged l (integer (stretch byte 6 (now (block .entry))))) byte rest ⌝ }
+{
+    judge(l, integer_at(block, byte), byte, rest)
+}
+
+// Whether all that remains of a block is blank.
+pub(crate) fn blank_from(block: &[u8], from: usize) -> bool
+    ensures { λ r. ⌜ r ≡ every isBlank (drop from (now (block .entry))) ⌝ }
+{
+    let mut i = from;
+    while i < block.len() {
+        if block[i] != 32 {
+            return false;
+        }
+        i += 1;
+    }
+    true
+}

@@ -1,0 +1,4 @@
+// The head of a profile's first block, and record C: one block each, no state. Document 01, "Record B".
+mod fields;
+pub mod record_b;
+pub mod record_c;

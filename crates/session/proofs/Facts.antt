@@ -1,0 +1,349 @@
+-- The clauses of a begun session as facts, and that the facts are exactly what the tests ask: `begun-facts`, `facts-begun`.
+use mathlib.Core.Bool.{Bool, true, false, cond}
+use mathlib.Core.Path.{_≡_, refl, sym}
+use Prim.Native.Nat.{ℕ, _+_, _*_, _-_, _/_, _%_, _^_, _≤_, _<_}
+use native.Mathlib.Omega.{arith}
+use borrow.Author.Tests.{leb-true, ltb-true, eqb-true, le-leb, lt-ltb, eq-eqb}
+use lib.Dec.{leb, ltb, eqb}
+use lib.IntN.{ℤ, natAbs}
+use lib.Signed.{leZ}
+use Rattle.laws.specs.Sign.{_and_}
+use Rattle.laws.proofs.Tests.{clash, and-first, and-second, and-both}
+use Rattle.sheet.specs.RecordA.{
+  fault,
+  limits,
+  zoneLimits,
+  groundLimits,
+  heightLimits,
+  inRange,
+  billion,
+  cornersInOrder,
+  oneTo2048,
+  columnsOf,
+  rowsOf,
+  wholeFault,
+}
+use Rattle.sheet.specs.declared.record_a.Header.{Header}
+use Rattle.sheet.specs.declared.record_a.Limits.{Limits}
+use Rattle.session.specs.declared.Profile.{Profile}
+use Rattle.session.specs.declared.Session.{Session}
+use Rattle.session.specs.Session.{
+  implies,
+  isRealNumber,
+  fieldsObey,
+  realsObey,
+  headerObeys,
+  busy,
+  profileObeys,
+  openRead,
+  openBlocks,
+  extremesObey,
+  closedObeys,
+  columnObeys,
+  postsObey,
+  finishObeys,
+  takenObeys,
+  begunObeys,
+}
+
+-- ---- a joined test taken apart, and one that is asked only where another holds
+
+pub split : (a b : Bool) → (a and b) ≡ true → (a ≡ true) × (b ≡ true)
+split a b t = (and-first a b t, and-second a b t)
+
+pub asked : (a b : Bool) → implies a b ≡ true → a ≡ true → b ≡ true
+asked true b t h = t
+asked false b t h = clash (sym h)
+
+pub unasked : (a b : Bool) → (a ≡ true → b ≡ true) → implies a b ≡ true
+unasked true b f = f refl
+unasked false b f = refl
+
+either-first : (a b : Bool) → a ≡ true → cond a true b ≡ true
+either-first a b h = rw h
+
+either-second : (a b : Bool) → b ≡ true → cond a true b ≡ true
+either-second true b h = refl
+either-second false b h = h
+
+either-cases {ℓ} : {X : Type ℓ} (a b : Bool) → cond a true b ≡ true → (a ≡ true → X) → (b ≡ true → X) → X
+either-cases true b t f g = f refl
+either-cases false b t f g = g t
+
+-- ---- the header
+
+pub record Ranged (from to by v : ℕ) : Type 0 where
+  pub least : from ≤ v
+  pub greatest : v ≤ to
+  pub step : v % by ≡ 0
+
+ranged : (l : Limits) (v : ℕ) → inRange l v ≡ true → Ranged (l .least) (l .greatest) (l .step) v
+ranged l v t =
+    let a = split (leb (l .least) v) _ t in
+    let b = split (leb v (l .greatest)) _ (a .1) in
+    record {
+      least = leb-true (l .least) v (a .0);
+      greatest = leb-true v (l .greatest) (b .0);
+      step = eqb-true (v % l .step) 0 (b .1);
+    }
+
+-- the z spacing in hundredths of a unit
+pub record Height (z : ℕ) : Type 0 where
+  pub least : 1 ≤ z / 10 ^ 7
+  pub greatest : z / 10 ^ 7 ≤ 100
+  pub step : z % 10 ^ 7 ≡ 0
+
+height : (v z : ℕ) → inRange (heightLimits v) z ≡ true → Height z
+height v z t = go (eqb v 1) refl
+  where
+    go : (b : Bool) → eqb v 1 ≡ b → Height z
+    go true e =
+        let r = ranged (limits (10 ^ 8) billion (10 ^ 8) 7) z (rw e at t) in
+        record { least = omega arith; greatest = omega arith; step = omega arith }
+    go false e =
+        let r = ranged (limits (10 ^ 7) billion (10 ^ 7) 7) z (rw e at t) in
+        record { least = omega arith; greatest = omega arith; step = omega arith }
+
+pub record Heading (h : Header) : Type 0 where
+  pub level : Ranged 1 3 1 (h .level)
+  pub system : h .system ≤ 2
+  pub zone : inRange (zoneLimits (h .system)) (h .zone) ≡ true
+  pub ground : inRange (groundLimits (h .system)) (h .ground) ≡ true
+  pub vertical : Ranged 1 2 1 (h .vertical)
+  pub accuracy : h .accuracy ≤ 1
+  pub xstep : Ranged billion (9999 * billion) billion (h .xstep)
+  pub ystep : Ranged billion (9999 * billion) billion (h .ystep)
+  pub zstep : Height (h .zstep)
+  pub profiles : Ranged 1 2048 1 (h .profiles)
+  pub reals : realsObey h ≡ true
+  pub whole : wholeFault h .kind ≡ 0
+  pub corners : cornersInOrder h ≡ true
+  pub columns : (1 ≤ columnsOf h) × (columnsOf h ≤ 2048)
+  pub rows : (1 ≤ rowsOf h) × (rowsOf h ≤ 2048)
+  pub room : h .profiles ≤ columnsOf h
+
+whole-tests : (a b c : Bool)
+    → cond a (cond b (cond c (fault 0 0) (fault 10 859)) (fault 10 817)) (fault 10 547) .kind ≡ 0
+    → (a ≡ true) × (b ≡ true) × (c ≡ true)
+whole-tests true true true z = (refl, refl, refl)
+whole-tests true true false z = absurd (omega arith)
+whole-tests true false c z = absurd (omega arith)
+whole-tests false b c z = absurd (omega arith)
+
+one-to : (n : ℕ) → oneTo2048 n ≡ true → (1 ≤ n) × (n ≤ 2048)
+one-to n t = let a = split (leb 1 n) _ t in (leb-true 1 n (a .0), leb-true n 2048 (a .1))
+
+abbrev spacing : Limits
+spacing = limits billion (9999 * billion) billion 7
+
+pub header-facts : (h : Header) → headerObeys h ≡ true → Heading h
+header-facts h t =
+    let fields = split (fieldsObey h) _ t in
+    let reals = split (realsObey h) _ (fields .1) in
+    let whole = eqb-true (wholeFault h .kind) 0 (reals .1) in
+    let w =
+    whole-tests (cornersInOrder h) (oneTo2048 (columnsOf h) and oneTo2048 (rowsOf h)) (leb (h .profiles) (columnsOf h)) whole
+    in
+    let counts = split (oneTo2048 (columnsOf h)) _ (w .1) in
+    let level = split (inRange (limits 1 3 1 9) (h .level)) _ (fields .0) in
+    let system = split (inRange (limits 0 2 1 9) (h .system)) _ (level .1) in
+    let zone = split (inRange (zoneLimits (h .system)) (h .zone)) _ (system .1) in
+    let ground = split (inRange (groundLimits (h .system)) (h .ground)) _ (zone .1) in
+    let vertical = split (inRange (limits 1 2 1 9) (h .vertical)) _ (ground .1) in
+    let accuracy = split (inRange (limits 0 1 1 9) (h .accuracy)) _ (vertical .1) in
+    let x = split (inRange spacing (h .xstep)) _ (accuracy .1) in
+    let y = split (inRange spacing (h .ystep)) _ (x .1) in
+    let z = split (inRange (heightLimits (h .vertical)) (h .zstep)) _ (y .1) in
+    record {
+      level = ranged (limits 1 3 1 9) (h .level) (level .0);
+      system = ranged (limits 0 2 1 9) (h .system) (system .0) .greatest;
+      zone = zone .0;
+      ground = ground .0;
+      vertical = ranged (limits 1 2 1 9) (h .vertical) (vertical .0);
+      accuracy = ranged (limits 0 1 1 9) (h .accuracy) (accuracy .0) .greatest;
+      xstep = ranged spacing (h .xstep) (x .0);
+      ystep = ranged spacing (h .ystep) (y .0);
+      zstep = height (h .vertical) (h .zstep) (z .0);
+      profiles = ranged (limits 1 2048 1 7) (h .profiles) (z .1);
+      reals = reals .0;
+      whole = whole;
+      corners = w .0;
+      columns = one-to (columnsOf h) (counts .0);
+      rows = one-to (rowsOf h) (counts .1);
+      room = leb-true (h .profiles) (columnsOf h) (w .2);
+    }
+
+-- ---- the open profile
+
+pub record Profiling (h : Header) (p : Profile) : Type 0 where
+  pub posts : p .posts ≤ 2048
+  pub room : p .row + p .posts ≤ rowsOf h
+  pub datum : natAbs (p .datum) ≤ 1000000
+  pub least : isRealNumber (p .least) ≡ true
+  pub greatest : isRealNumber (p .greatest) ≡ true
+  pub first : 146 ≤ p .read
+  pub step : (p .read - 146) % 170 ≡ 0
+  pub more : p .read < p .posts
+
+pub profile-facts : (h : Header) (p : Profile) → profileObeys h p ≡ true → Profiling h p
+profile-facts h p t =
+    let posts = split (leb (p .posts) 2048) _ t in
+    let room = split (leb (p .row + p .posts) (rowsOf h)) _ (posts .1) in
+    let datum = split (leb (natAbs (p .datum)) 1000000) _ (room .1) in
+    let least = split (isRealNumber (p .least)) _ (datum .1) in
+    let greatest = split (isRealNumber (p .greatest)) _ (least .1) in
+    let first = split (leb 146 (p .read)) _ (greatest .1) in
+    let step = split (eqb ((p .read - 146) % 170) 0) _ (first .1) in
+    record {
+      posts = leb-true (p .posts) 2048 (posts .0);
+      room = leb-true (p .row + p .posts) (rowsOf h) (room .0);
+      datum = leb-true (natAbs (p .datum)) 1000000 (datum .0);
+      least = least .0;
+      greatest = greatest .0;
+      first = leb-true 146 (p .read) (first .0);
+      step = eqb-true ((p .read - 146) % 170) 0 (step .0);
+      more = ltb-true (p .read) (p .posts) (step .1);
+    }
+
+pub facts-profile : (h : Header) (p : Profile) → Profiling h p → profileObeys h p ≡ true
+facts-profile h p f =
+    and-both (le-leb (p .posts) 2048 (f .posts))
+    (and-both (le-leb (p .row + p .posts) (rowsOf h) (f .room))
+    (and-both (le-leb (natAbs (p .datum)) 1000000 (f .datum))
+    (and-both (f .least)
+    (and-both (f .greatest)
+    (and-both (le-leb 146 (p .read) (f .first))
+    (and-both (eq-eqb ((p .read - 146) % 170) 0 (f .step)) (lt-ltb (p .read) (p .posts) (f .more))))))))
+
+-- ---- running extremes
+
+pub record Running (low high : ℤ) : Type 0 where
+  pub ordered : leZ low high ≡ true
+  pub lowest : natAbs low ≤ 4276700
+  pub highest : natAbs high ≤ 4276700
+
+pub extremes-facts : (filled : ℕ) (low high : ℤ) → extremesObey filled low high ≡ true → 0 < filled → Running low high
+extremes-facts filled low high t h =
+    let a = split (leZ low high) _ (asked (ltb 0 filled) _ t (lt-ltb 0 filled h)) in
+    let b = split (leb (natAbs low) 4276700) _ (a .1) in
+    record {
+      ordered = a .0;
+      lowest = leb-true (natAbs low) 4276700 (b .0);
+      highest = leb-true (natAbs high) 4276700 (b .1);
+    }
+
+pub facts-extremes : (filled : ℕ) (low high : ℤ) → (0 < filled → Running low high) → extremesObey filled low high ≡ true
+facts-extremes filled low high f =
+    unasked (ltb 0 filled) _
+    (λ t.
+    let r = f (ltb-true 0 filled t) in
+    and-both (r .ordered)
+    (and-both (le-leb (natAbs low) 4276700 (r .lowest)) (le-leb (natAbs high) 4276700 (r .highest))))
+
+-- ---- the session
+
+pub record Begun (s : Session) : Type 0 where
+  pub header : headerObeys (s .header) ≡ true
+  pub closed : s .closed ≤ s .header .profiles
+  pub below : busy s ≡ true → s .closed < s .header .profiles
+  pub profile : busy s ≡ true → Profiling (s .header) (s .profile)
+  pub column-open : busy s ≡ true → s .column + s .header .profiles ≤ columnsOf (s .header)
+  pub column-closed : 0 < s .closed → s .column + s .header .profiles ≤ columnsOf (s .header)
+  pub finished : s .finished ≤ 1
+  pub finish : s .finished ≡ 1 → (s .header .accuracy ≡ 1) × (s .closed ≡ s .header .profiles)
+  pub posts-least : s .closed + openRead s ≤ s .posts
+  pub posts-most : s .posts ≤ 2048 * s .closed + openRead s
+  pub filled : s .filled ≤ s .posts
+  pub profile-filled : busy s ≡ true → s .profile .filled ≤ s .profile .read
+  pub taken-least : 1 + s .closed + openBlocks s + s .finished ≤ s .taken
+  pub taken-most : s .taken ≤ 1 + 13 * s .closed + openBlocks s + s .finished
+  pub extremes : 0 < s .filled → Running (s .low) (s .high)
+  pub profile-extremes : busy s ≡ true → 0 < s .profile .filled → Running (s .profile .low) (s .profile .high)
+
+module _ (s : Session) where
+  pub closed-facts : closedObeys s ≡ true
+      → (s .closed ≤ s .header .profiles) × (busy s ≡ true → s .closed < s .header .profiles)
+  closed-facts t =
+      let a = split (leb (s .closed) (s .header .profiles)) _ t in (
+        leb-true (s .closed) (s .header .profiles) (a .0),
+        λ b. ltb-true (s .closed) (s .header .profiles) (asked (busy s) _ (a .1) b),
+      )
+
+  column-facts : columnObeys s ≡ true
+      → cond (busy s) true (ltb 0 (s .closed)) ≡ true → s .column + s .header .profiles ≤ columnsOf (s .header)
+  column-facts t h =
+      leb-true (s .column + s .header .profiles) (columnsOf (s .header)) (asked (cond (busy s) true (ltb 0 (s .closed))) _ t h)
+
+  pub finish-facts : finishObeys s ≡ true
+      → (s .finished ≤ 1) × (s .finished ≡ 1 → (s .header .accuracy ≡ 1) × (s .closed ≡ s .header .profiles))
+  finish-facts t =
+      let a = split (leb (s .finished) 1) _ t in (
+        leb-true (s .finished) 1 (a .0),
+        λ e.
+            let b = split (eqb (s .header .accuracy) 1) _ (asked (eqb (s .finished) 1) _ (a .1) (eq-eqb (s .finished) 1 e)) in
+            (eqb-true (s .header .accuracy) 1 (b .0), eqb-true (s .closed) (s .header .profiles) (b .1)),
+      )
+
+  pub begun-facts : begunObeys s ≡ true → Begun s
+  begun-facts t =
+      let header = split (headerObeys (s .header)) _ t in
+      let closed = split (closedObeys s) _ (header .1) in
+      let profile = split (implies (busy s) (profileObeys (s .header) (s .profile))) _ (closed .1) in
+      let column = split (columnObeys s) _ (profile .1) in
+      let finish = split (finishObeys s) _ (column .1) in
+      let posts = split (postsObey s) _ (finish .1) in
+      let taken = split (takenObeys s) _ (posts .1) in
+      let extremes = split (extremesObey (s .filled) (s .low) (s .high)) _ (taken .1) in
+      let least = split (leb (s .closed + openRead s) (s .posts)) _ (posts .0) in
+      let most = split (leb (s .posts) (2048 * s .closed + openRead s)) _ (least .1) in
+      let filled = split (leb (s .filled) (s .posts)) _ (most .1) in
+      let from = split (leb (1 + s .closed + openBlocks s + s .finished) (s .taken)) _ (taken .0) in
+      record {
+        header = header .0;
+        closed = closed-facts (closed .0) .0;
+        below = closed-facts (closed .0) .1;
+        profile = λ b. profile-facts (s .header) (s .profile) (asked (busy s) _ (profile .0) b);
+        column-open = λ b. column-facts (column .0) (either-first (busy s) _ b);
+        column-closed = λ h. column-facts (column .0) (either-second (busy s) _ (lt-ltb 0 (s .closed) h));
+        finished = finish-facts (finish .0) .0;
+        finish = finish-facts (finish .0) .1;
+        posts-least = leb-true (s .closed + openRead s) (s .posts) (least .0);
+        posts-most = leb-true (s .posts) (2048 * s .closed + openRead s) (most .0);
+        filled = leb-true (s .filled) (s .posts) (filled .0);
+        profile-filled = λ b. leb-true (s .profile .filled) (s .profile .read) (asked (busy s) _ (filled .1) b);
+        taken-least = leb-true (1 + s .closed + openBlocks s + s .finished) (s .taken) (from .0);
+        taken-most = leb-true (s .taken) (1 + 13 * s .closed + openBlocks s + s .finished) (from .1);
+        extremes = extremes-facts (s .filled) (s .low) (s .high) (extremes .0);
+        profile-extremes =
+            λ b. extremes-facts (s .profile .filled) (s .profile .low) (s .profile .high) (asked (busy s) _ (extremes .1) b);
+      }
+
+  pub facts-begun : Begun s → begunObeys s ≡ true
+  facts-begun f =
+      and-both (f .header)
+      (and-both
+      (and-both (le-leb (s .closed) (s .header .profiles) (f .closed))
+      (unasked (busy s) _ (λ b. lt-ltb (s .closed) (s .header .profiles) (f .below b))))
+      (and-both (unasked (busy s) _ (λ b. facts-profile (s .header) (s .profile) (f .profile b)))
+      (and-both
+      (unasked (cond (busy s) true (ltb 0 (s .closed))) _
+      (λ h.
+      le-leb (s .column + s .header .profiles) (columnsOf (s .header))
+      (either-cases (busy s) _ h (f .column-open) (λ k. f .column-closed (ltb-true 0 (s .closed) k)))))
+      (and-both
+      (and-both (le-leb (s .finished) 1 (f .finished))
+      (unasked (eqb (s .finished) 1) _
+      (λ h.
+      let e = f .finish (eqb-true (s .finished) 1 h) in
+      and-both (eq-eqb (s .header .accuracy) 1 (e .0)) (eq-eqb (s .closed) (s .header .profiles) (e .1)))))
+      (and-both
+      (and-both (le-leb (s .closed + openRead s) (s .posts) (f .posts-least))
+      (and-both (le-leb (s .posts) (2048 * s .closed + openRead s) (f .posts-most))
+      (and-both (le-leb (s .filled) (s .posts) (f .filled))
+      (unasked (busy s) _ (λ b. le-leb (s .profile .filled) (s .profile .read) (f .profile-filled b))))))
+      (and-both
+      (and-both (le-leb (1 + s .closed + openBlocks s + s .finished) (s .taken) (f .taken-least))
+      (le-leb (s .taken) (1 + 13 * s .closed + openBlocks s + s .finished) (f .taken-most)))
+      (and-both (facts-extremes (s .filled) (s .low) (s .high) (f .extremes))
+      (unasked (busy s) _
+      (λ b. facts-extremes (s .profile .filled) (s .profile .low) (s .profile .high) (f .profile-extremes b))))))))))

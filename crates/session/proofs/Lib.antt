@@ -1,0 +1,4 @@
+pub mod Told
+pub mod Facts
+pub mod Bounds
+pub mod Sound

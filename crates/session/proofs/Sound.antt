@@ -1,0 +1,202 @@
+-- What a sound session is known by: fresh or begun, and the two bounds that document 01 draws from the clauses.
+use mathlib.Core.Bool.{Bool, true, false}
+use mathlib.Core.Logic.{_↔_}
+use mathlib.Core.Path.{_≡_, refl, sym, ap}
+use Prim.Native.Nat.{_≤_}
+use native.Mathlib.Omega.{arith}
+use borrow.Author.Tests.{eqb-true}
+use lib.Dec.{eqb}
+use lib.IntN.{ℤ, pos, negsuc}
+use Rattle.laws.proofs.Tests.{clash}
+use Rattle.sheet.specs.declared.record_a.Corner.{Corner}
+use Rattle.sheet.specs.declared.record_a.Header.{Header}
+use Rattle.session.specs.declared.Profile.{Profile}
+use Rattle.session.specs.declared.Session.{Session}
+use Rattle.session.specs.Session.{
+  fresh,
+  freshCorner,
+  freshHeader,
+  noProfile,
+  isZero,
+  zeroCorner,
+  zeroHeader,
+  zeroProfile,
+  isFresh,
+  busy,
+  openRead,
+  openBlocks,
+  begunObeys,
+  sound,
+}
+use Rattle.session.proofs.Facts.{split, Begun, begun-facts, Heading, header-facts}
+use Rattle.session.proofs.Bounds.{read-few, blocks-few}
+
+-- ---- fresh, field by field
+
+is-zero : (z : ℤ) → isZero z ≡ true → z ≡ pos 0
+is-zero (pos n) t = ap pos (eqb-true n 0 t)
+is-zero (negsuc n) t = clash (sym t)
+
+corner-is : (c : Corner) → zeroCorner c ≡ true → c ≡ freshCorner
+corner-is c t =
+    let a = split (isZero (c .x)) _ t in
+    λ j. record { x = is-zero (c .x) (a .0) j; y = is-zero (c .y) (a .1) j }
+
+header-is : (h : Header) → zeroHeader h ≡ true → h ≡ freshHeader
+header-is h t =
+    let level = split (eqb (h .level) 0) _ t in
+    let system = split (eqb (h .system) 0) _ (level .1) in
+    let zone = split (eqb (h .zone) 0) _ (system .1) in
+    let ground = split (eqb (h .ground) 0) _ (zone .1) in
+    let vertical = split (eqb (h .vertical) 0) _ (ground .1) in
+    let sw = split (zeroCorner (h .sw)) _ (vertical .1) in
+    let nw = split (zeroCorner (h .nw)) _ (sw .1) in
+    let ne = split (zeroCorner (h .ne)) _ (nw .1) in
+    let se = split (zeroCorner (h .se)) _ (ne .1) in
+    let least = split (isZero (h .least)) _ (se .1) in
+    let greatest = split (isZero (h .greatest)) _ (least .1) in
+    let accuracy = split (eqb (h .accuracy) 0) _ (greatest .1) in
+    let xstep = split (eqb (h .xstep) 0) _ (accuracy .1) in
+    let ystep = split (eqb (h .ystep) 0) _ (xstep .1) in
+    let zstep = split (eqb (h .zstep) 0) _ (ystep .1) in
+    λ j.
+    record {
+      level = eqb-true (h .level) 0 (level .0) j;
+      system = eqb-true (h .system) 0 (system .0) j;
+      zone = eqb-true (h .zone) 0 (zone .0) j;
+      ground = eqb-true (h .ground) 0 (ground .0) j;
+      vertical = eqb-true (h .vertical) 0 (vertical .0) j;
+      sw = corner-is (h .sw) (sw .0) j;
+      nw = corner-is (h .nw) (nw .0) j;
+      ne = corner-is (h .ne) (ne .0) j;
+      se = corner-is (h .se) (se .0) j;
+      least = is-zero (h .least) (least .0) j;
+      greatest = is-zero (h .greatest) (greatest .0) j;
+      accuracy = eqb-true (h .accuracy) 0 (accuracy .0) j;
+      xstep = eqb-true (h .xstep) 0 (xstep .0) j;
+      ystep = eqb-true (h .ystep) 0 (ystep .0) j;
+      zstep = eqb-true (h .zstep) 0 (zstep .0) j;
+      profiles = eqb-true (h .profiles) 0 (zstep .1) j;
+    }
+
+profile-is : (p : Profile) → zeroProfile p ≡ true → p ≡ noProfile
+profile-is p t =
+    let posts = split (eqb (p .posts) 0) _ t in
+    let row = split (eqb (p .row) 0) _ (posts .1) in
+    let datum = split (isZero (p .datum)) _ (row .1) in
+    let least = split (isZero (p .least)) _ (datum .1) in
+    let greatest = split (isZero (p .greatest)) _ (least .1) in
+    let read = split (eqb (p .read) 0) _ (greatest .1) in
+    let filled = split (eqb (p .filled) 0) _ (read .1) in
+    let low = split (isZero (p .low)) _ (filled .1) in
+    λ j.
+    record {
+      posts = eqb-true (p .posts) 0 (posts .0) j;
+      row = eqb-true (p .row) 0 (row .0) j;
+      datum = is-zero (p .datum) (datum .0) j;
+      least = is-zero (p .least) (least .0) j;
+      greatest = is-zero (p .greatest) (greatest .0) j;
+      read = eqb-true (p .read) 0 (read .0) j;
+      filled = eqb-true (p .filled) 0 (filled .0) j;
+      low = is-zero (p .low) (low .0) j;
+      high = is-zero (p .high) (low .1) j;
+    }
+
+fresh-is : (s : Session) → isFresh s ≡ true → s ≡ fresh
+fresh-is s t =
+    let header = split (zeroHeader (s .header)) _ t in
+    let taken = split (eqb (s .taken) 0) _ (header .1) in
+    let closed = split (eqb (s .closed) 0) _ (taken .1) in
+    let posts = split (eqb (s .posts) 0) _ (closed .1) in
+    let filled = split (eqb (s .filled) 0) _ (posts .1) in
+    let low = split (isZero (s .low)) _ (filled .1) in
+    let high = split (isZero (s .high)) _ (low .1) in
+    let column = split (eqb (s .column) 0) _ (high .1) in
+    let finished = split (eqb (s .finished) 0) _ (column .1) in
+    λ j.
+    record {
+      header = header-is (s .header) (header .0) j;
+      taken = eqb-true (s .taken) 0 (taken .0) j;
+      closed = eqb-true (s .closed) 0 (closed .0) j;
+      posts = eqb-true (s .posts) 0 (posts .0) j;
+      filled = eqb-true (s .filled) 0 (filled .0) j;
+      low = is-zero (s .low) (low .0) j;
+      high = is-zero (s .high) (high .0) j;
+      column = eqb-true (s .column) 0 (column .0) j;
+      finished = eqb-true (s .finished) 0 (finished .0) j;
+      profile = profile-is (s .profile) (finished .1) j;
+    }
+
+pub fresh-exactly : (s : Session) → (isFresh s ≡ true) ↔ (s ≡ fresh)
+fresh-exactly s = (fresh-is s, λ e. ap isFresh e)
+
+pub fresh-sound : sound fresh ≡ true
+unfolding sound
+fresh-sound = refl
+
+-- ---- fresh or begun
+
+pub begun-sound : (s : Session) → begunObeys s ≡ true → sound s ≡ true
+unfolding sound
+begun-sound s t = go (isFresh s) refl
+  where
+    go : (b : Bool) → isFresh s ≡ b → sound s ≡ true
+    go true e = rw e
+    go false e = rw e t
+
+pub fresh-or-begun {ℓ} : {X : Type ℓ} (s : Session) → sound s ≡ true → (s ≡ fresh → X) → (begunObeys s ≡ true → X) → X
+unfolding sound
+fresh-or-begun {X = X} s t f g = go (isFresh s) refl
+  where
+    go : (b : Bool) → isFresh s ≡ b → X
+    go true e = f (fresh-is s e)
+    go false e = g (rw e at t)
+
+pub not-fresh-taken : (s : Session) → begunObeys s ≡ true → 1 ≤ s .taken
+not-fresh-taken s t =
+    let f = begun-facts s t in
+    omega arith
+
+pub sound-begun : (s : Session) → sound s ≡ true → 1 ≤ s .taken → begunObeys s ≡ true
+sound-begun s t h =
+    fresh-or-begun s t
+    (λ e.
+    let z : s .taken ≡ 0 = ap (λ (x : Session). x .taken) e in
+    absurd (omega arith))
+    (λ b. b)
+
+pub untaken-fresh : (s : Session) → sound s ≡ true → s .taken ≡ 0 → s ≡ fresh
+untaken-fresh s t z = fresh-or-begun s t (λ e. e) (λ b. absurd (omega (arith, not-fresh-taken s b)))
+
+-- ---- "So taken never passes 26,626, nor posts 4,194,304."
+
+begun-bounds : (s : Session) → begunObeys s ≡ true → (s .taken ≤ 26626) × (s .posts ≤ 4194304)
+begun-bounds s b =
+    let f = begun-facts s b in
+    go f (header-facts (s .header) (f .header)) (busy s) refl
+  where
+    go : Begun s → Heading (s .header) → (t : Bool) → busy s ≡ t → (s .taken ≤ 26626) × (s .posts ≤ 4194304)
+    go f h true e =
+        let below = f .below e in
+        let read = read-few s (f .profile) in
+        let blocks = blocks-few s read in
+        (omega arith, omega arith)
+    go f h false e =
+        let read : openRead s ≡ 0 = rw e in
+        let blocks : openBlocks s ≡ 0 = rw e in
+        (omega arith, omega arith)
+
+bounds : (s : Session) → sound s ≡ true → (s .taken ≤ 26626) × (s .posts ≤ 4194304)
+bounds s t =
+    fresh-or-begun s t
+    (λ e.
+    let taken : s .taken ≡ 0 = ap (λ (x : Session). x .taken) e in
+    let posts : s .posts ≡ 0 = ap (λ (x : Session). x .posts) e in
+    (omega arith, omega arith))
+    (begun-bounds s)
+
+pub taken-bound : (s : Session) → sound s ≡ true → s .taken ≤ 26626
+taken-bound s t = bounds s t .0
+
+pub posts-bound : (s : Session) → sound s ≡ true → s .posts ≤ 4194304
+posts-bound s t = bounds s t .1

@@ -1,0 +1,49 @@
+-- Ten fields, from the last join to the first.
+use mathlib.Core.Path.{_∙_}
+use Rattle.laws.specs.Sign.{_and_}
+use lib.Dec.{eqb}
+use Rattle.session.specs.Session.{isZero}
+use Rattle.session.proofs.Told.{told}
+use Rattle.session.proofs.zero.is_fresh.Statement.{statement}
+use Rattle.session.proofs.zero.is_fresh.Tie as tie
+
+returns : tie.Need-returns
+returns c =
+    let header = c .before .before .before in
+    let counts = header .before in
+    let low = counts .before in
+    let places = low .before .before .before .before in
+    let profile = places .before in
+    let high = profile .before .before .before in
+    let s = high .before .before .before .before .args .s in
+    c .all43 .ensures
+    ∙ (λ j.
+    header .zero-header .ensures j
+    and eqb (s .taken) 0
+    and eqb (s .closed) 0
+    and (counts .all42 .ensures
+    ∙ (λ k.
+    eqb (s .posts) 0
+    and eqb (s .filled) 0
+    and told isZero (s .low) (low .is-zero2 .ensures) (low .before .struct-told2 .given .1 .1 .1 .1 .1 .0 .1) k
+    and (places .all4 .ensures
+    ∙ (λ l.
+    told isZero (s .high) (high .is-zero .ensures) (high .before .struct-told .given .1 .1 .1 .1 .1 .1 .0 .1) l
+    and eqb (s .column) 0
+    and eqb (s .finished) 0
+    and profile .zero-profile .ensures l))
+    k))
+    j)
+
+pub is-fresh-spec : {M : Type 1} → statement M
+is-fresh-spec =
+    tie.close
+    (tie.spec
+    (λ c κs. tt)
+    (λ c κs. tt)
+    (λ c κs. tt)
+    (λ c κs. tt)
+    (λ c κs. tt)
+    (λ c κs. tt)
+    (λ c κs. tt)
+    returns)

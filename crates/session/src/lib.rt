@@ -1,0 +1,94 @@
+// The session of a sheet that is being loaded: document 01, "What a delivery answers".
+mod clauses;
+mod joined;
+mod zero;
+
+use sheet::record_a::Corner;
+use sheet::record_a::Header;
+ghost use mathlib.Core.Path.{_≡_};
+ghost use Rattle.session.specs.Session.{fresh, sound};
+
+// The open profile: none where `posts` is 0. Stated extremes are in billionths, datum and running extremes in hundredths.
+pub struct Profile {
+    pub posts: u64,
+    pub row: u64,
+    pub datum: i64,
+    pub least: i64,
+    pub greatest: i64,
+    pub read: u64,
+    pub filled: u64,
+    pub low: i64,
+    pub high: i64,
+}
+
+// Blocks taken, profiles closed, posts and filled posts with their extremes in hundredths, the first profile's column, and
+// whether record C was taken.
+pub struct Session {
+    pub header: Header,
+    pub taken: u64,
+    pub closed: u64,
+    pub posts: u64,
+    pub filled: u64,
+    pub low: i64,
+    pub high: i64,
+    pub column: u64,
+    pub finished: u64,
+    pub profile: Profile,
+}
+
+pub fn new() -> Session
+    ensures { λ r. ⌜ r ≡ fresh ⌝ }
+{
+    let corner = Corner { x: 0, y: 0 };
+    let header = Header {
+        level: 0,
+        system: 0,
+        zone: 0,
+        ground: 0,
+        vertical: 0,
+        sw: corner,
+        nw: corner,
+        ne: corner,
+        se: corner,
+        least: 0,
+        greatest: 0,
+        accuracy: 0,
+        xstep: 0,
+        ystep: 0,
+        zstep: 0,
+        profiles: 0,
+    };
+    let profile = Profile {
+        posts: 0,
+        row: 0,
+        datum: 0,
+        least: 0,
+        greatest: 0,
+        read: 0,
+        filled: 0,
+        low: 0,
+        high: 0,
+    };
+    Session {
+        header,
+        taken: 0,
+        closed: 0,
+        posts: 0,
+        filled: 0,
+        low: 0,
+        high: 0,
+        column: 0,
+        finished: 0,
+        profile,
+    }
+}
+
+// Document 01: "A session is sound exactly if ..". Any session is answered.
+pub fn is_sound(s: Session) -> bool
+    ensures { λ r. ⌜ r ≡ sound s ⌝ }
+{
+    if zero::is_fresh(s) {
+        return true;
+    }
+    clauses::begun_obeys(s)
+}

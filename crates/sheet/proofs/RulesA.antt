@@ -1,0 +1,153 @@
+-- The verdict on a block is its first broken rule, or its header where it keeps all: carried by an induction over the rows.
+use mathlib.Core.Bool.{Bool, true, false, cond}
+use mathlib.Core.List.{List, [], _∷_}
+use mathlib.Core.Logic.{_↔_, _⊎_, inl, inr}
+use mathlib.Core.Path.{_≡_, refl, sym, _∙_}
+use Prim.Native.Nat.{ℕ, _+_, _-_}
+use native.Mathlib.Omega.{arith}
+use borrow.Author.Tests.{leb-true, eqb-true, eqb-false, eq-eqb, ne-eqb, not-true}
+use lib.Dec.{leb, eqb}
+use lib.ListN.{length}
+use Rattle.laws.specs.Sign.{_and_}
+use Rattle.laws.proofs.Tables.{all}
+use Rattle.laws.proofs.Tests.{clash, and-first, and-second}
+use Rattle.number.proofs.GrammarParts.{by-test}
+use Rattle.sheet.specs.RecordA.{Row, fields, judgeRow, fault, firstFault, headerOf, wholeFault, faultOf, recordA}
+use Rattle.sheet.specs.RulesA.{Clause, clausesOf, fieldClauses, wholeClauses, rulesA, Keeps, FirstBroken}
+use Rattle.sheet.specs.RulesA.Keeps.{none, more}
+use Rattle.sheet.specs.RulesA.FirstBroken.{here, later}
+use Rattle.sheet.specs.declared.record_a.Checked.the-variants.{Sheet, Refused}
+use Rattle.sheet.specs.declared.record_a.Fault.{Fault}
+use Rattle.sheet.specs.declared.record_a.Header.{Header}
+use Rattle.sheet.proofs.FieldRules.{firstOf, first-append, nonzero, Says, suits, rule-says}
+use Rattle.sheet.proofs.HeaderA.{verdict-length}
+
+-- ---- any list of rules
+abbrev pub named : Clause → Bool
+named c = nonzero (c .kind)
+
+pub kept-or-broken : (block : List ℕ) (cs : List Clause) → Keeps block cs ⊎ ((c : Clause) × FirstBroken block c cs)
+kept-or-broken block [] = inl none
+kept-or-broken block (c ∷ cs) =
+    by-test (c .kept block) (λ e. go e (kept-or-broken block cs)) (λ e. inr (c, here (λ k. clash (sym k ∙ e))))
+  where
+    go : c .kept block ≡ true → Keeps block cs ⊎ ((d : Clause) × FirstBroken block d cs)
+        → Keeps block (c ∷ cs) ⊎ ((d : Clause) × FirstBroken block d (c ∷ cs))
+    go e (inl k) = inl (more e k)
+    go e (inr b) = inr (b .0, later e (b .1))
+
+pub one-first : {block : List ℕ} {c d : Clause} {cs : List Clause} → FirstBroken block c cs → FirstBroken block d cs → c ≡ d
+one-first (here n) (here m) = refl
+one-first (here n) (later k b) = absurd (n k)
+one-first (later k b) (here n) = absurd (n k)
+one-first (later k a) (later l b) = one-first a b
+
+keeps-first : {block : List ℕ} {cs : List Clause} → Keeps block cs → (f : Fault) → firstOf block cs f ≡ f
+keeps-first none f = refl
+keeps-first (more k ks) f = rw k (keeps-first ks f)
+
+broken-first : {block : List ℕ} {c : Clause} {cs : List Clause} → FirstBroken block c cs → (f : Fault)
+    → firstOf block cs f ≡ fault (c .kind) (c .byte)
+broken-first {block} {c} (here n) f = by-test (c .kept block) (λ e. absurd (n e)) (λ e. rw e)
+broken-first (later k b) f = rw k (broken-first b f)
+
+broken-named : {block : List ℕ} {c : Clause} {cs : List Clause} → FirstBroken block c cs → all named cs ≡ true → c .kind ≡ 0 → ⊥
+broken-named {block} {c} (here {cs} n) t = eqb-false (c .kind) 0 (not-true _ (and-first (named c) (all named cs) t))
+broken-named (later {d} {cs} k b) t = broken-named b (and-second (named d) (all named cs) t)
+
+-- ---- the rules of record A
+pub rules-count : length rulesA ≡ 86
+unfolding rulesA fields
+rules-count = refl
+
+pub rules-named : all named rulesA ≡ true
+unfolding rulesA fields
+rules-named = refl
+
+-- a row stands inside the block, and its width and kind suit its rule
+abbrev sound : Row → Bool
+sound r = leb 1 (r .width) and leb (r .first - 1 + r .width) 1024 and suits (r .width) (r .rule)
+
+rows-sound : all sound fields ≡ true
+unfolding fields
+rows-sound = refl
+
+module _ (block : List ℕ) (l : length block ≡ 1024) where
+  row-says : (r : Row) → sound r ≡ true → Says block (r .first) (clausesOf (r .first) (r .width) (r .rule)) (judgeRow block r)
+  row-says r t =
+      let some = leb 1 (r .width) in
+      let inside = leb (r .first - 1 + r .width) 1024 in
+      let fits = suits (r .width) (r .rule) in
+      let u = and-second some (inside and fits) t in
+      rule-says block (r .first) (r .width) l (leb-true 1 (r .width) (and-first some (inside and fits) t))
+      (leb-true (r .first - 1 + r .width) 1024 (and-first inside fits u)) (r .rule) (and-second inside fits u)
+
+  -- f stands for what the rules after the rows say
+  rows-say : (rs : List Row) → all sound rs ≡ true → (f : Fault)
+      → firstOf block (fieldClauses rs) f ≡ cond (eqb (firstFault block rs .kind) 0) f (firstFault block rs)
+  rows-say [] t f = refl
+  rows-say (r ∷ rs) t f =
+      let i = rows-say rs (and-second (sound r) (all sound rs) t) f in
+      first-append block (clausesOf (r .first) (r .width) (r .rule)) (fieldClauses rs) f
+      ∙ row-says r (and-first (sound r) (all sound rs) t) _
+      ∙ by-test (eqb (judgeRow block r .kind) 0) (λ e. rw e i) (λ e. simp e)
+
+  fault-is : faultOf block ≡ firstOf block rulesA (fault 0 0)
+  unfolding rulesA
+  fault-is =
+      let w = wholeFault (headerOf block) in
+      rw (eq-eqb (length block) 1024 l)
+      (sym (first-append block (fieldClauses fields) wholeClauses (fault 0 0) ∙ rows-say fields rows-sound w))
+
+  verdict-is : (f : Fault) → firstOf block rulesA (fault 0 0) ≡ f
+      → recordA block ≡ cond (eqb (f .kind) 0) (Sheet (headerOf block)) (Refused (f .kind) (f .byte))
+  unfolding recordA
+  verdict-is f e = rw (fault-is ∙ e)
+
+  verdict-kept : Keeps block rulesA → recordA block ≡ Sheet (headerOf block)
+  verdict-kept k = verdict-is (fault 0 0) (keeps-first k (fault 0 0))
+
+  verdict-broken : {c : Clause} → FirstBroken block c rulesA → recordA block ≡ Refused (c .kind) (c .byte)
+  verdict-broken {c} b =
+      let n : eqb (c .kind) 0 ≡ false = ne-eqb (c .kind) 0 (broken-named b rules-named) in
+      verdict-is (fault (c .kind) (c .byte)) (broken-first b (fault 0 0)) ∙ rw n
+
+-- ---- what the verdict says
+not-both {ℓ} : {X : Type ℓ} {h : Header} {k y : ℕ} → Sheet h ≡ Refused k y → X
+not-both e =
+    let z : _≡_ {A = ℕ} 0 1 = cc in
+    absurd (omega arith)
+
+module _ (block : List ℕ) where
+  pub refused-length : (length block ≡ 1024 → ⊥) → recordA block ≡ Refused 1 0
+  refused-length n = sym (verdict-length block n)
+
+  pub refused-first : (k y : ℕ) → length block ≡ 1024
+      → (recordA block ≡ Refused k y) ↔ ((c : Clause) × FirstBroken block c rulesA × (c .kind ≡ k) × (c .byte ≡ y))
+  refused-first k y l = (λ e. go e (kept-or-broken block rulesA), λ b. verdict-broken block l (b .1) ∙ rw (b .2, b .3))
+    where
+      go : recordA block ≡ Refused k y → Keeps block rulesA ⊎ ((c : Clause) × FirstBroken block c rulesA)
+          → (c : Clause) × FirstBroken block c rulesA × (c .kind ≡ k) × (c .byte ≡ y)
+      go e (inl a) = not-both (sym (verdict-kept block l a) ∙ e)
+      go e (inr b) =
+          let d = verdict-broken block l (b .1) in
+          (b .0, b .1, cc, cc)
+
+  sheet-keeps : {h : Header} → recordA block ≡ Sheet h → (length block ≡ 1024) × Keeps block rulesA
+  sheet-keeps e =
+      by-test (eqb (length block) 1024) (λ t. go (eqb-true (length block) 1024 t) (kept-or-broken block rulesA))
+      (λ t. not-both (sym e ∙ refused-length (eqb-false (length block) 1024 t)))
+    where
+      go : length block ≡ 1024 → Keeps block rulesA ⊎ ((c : Clause) × FirstBroken block c rulesA)
+          → (length block ≡ 1024) × Keeps block rulesA
+      go l (inl k) = (l, k)
+      go l (inr b) = not-both (sym e ∙ verdict-broken block l (b .1))
+
+  pub sheet-exactly : ((h : Header) × (recordA block ≡ Sheet h)) ↔ ((length block ≡ 1024) × Keeps block rulesA)
+  sheet-exactly = (λ s. sheet-keeps (s .1), λ k. (headerOf block, verdict-kept block (k .0) (k .1)))
+
+  pub sheet-header : {h : Header} → recordA block ≡ Sheet h → h ≡ headerOf block
+  sheet-header {h} e =
+      let k = sheet-keeps e in
+      let d = verdict-kept block (k .0) (k .1) in
+      cc

@@ -1,0 +1,180 @@
+//! Compares the check of a record A, the origin and the name of libdesk.a with those of
+//! record_a.rs, block by block. Status 0: no difference. Status 1: a difference, or too
+//! little was compared.
+
+use second::dice::Dice;
+use second::headers::FAMILIES;
+use second::record_a;
+use std::collections::BTreeMap;
+use std::process::exit;
+
+extern "C" {
+    fn dem_record_a_kind(bytes: *const u8, length: usize) -> u32;
+    fn dem_record_a_byte(bytes: *const u8, length: usize) -> u32;
+    fn dem_origin(bytes: *const u8, length: usize) -> u32;
+    fn dem_name_length(bytes: *const u8, length: usize) -> usize;
+}
+
+const USUAL_SEED: u64 = 19_970_102;
+const FEWEST_BLOCKS: u64 = 200_000;
+/// What stands on both sides of a block when it is lent, by turns: a check that looks
+/// past an end finds a digit or a blank there.
+const SURROUNDINGS: [[u8; 24]; 2] = [[b'7'; 24], [b' '; 24]];
+
+/// What one program says of a block.
+#[derive(Clone, Copy, Debug, PartialEq)]
+struct Findings {
+    kind: u32,
+    byte: u32,
+    origin: u32,
+    name_length: usize,
+}
+
+#[derive(Default)]
+struct Comparison {
+    blocks: u64,
+    faults: BTreeMap<(u32, u32), u64>,
+    origins: BTreeMap<u32, u64>,
+    name_lengths: BTreeMap<usize, u64>,
+    /// The block and its surroundings, kept here to be used again for each block.
+    lent: Vec<u8>,
+}
+
+fn second_findings(block: &[u8]) -> Findings {
+    let (kind, byte) = record_a::check(block).err().unwrap_or((0, 0));
+    Findings {
+        kind,
+        byte,
+        origin: record_a::origin(block),
+        name_length: record_a::name_length(block),
+    }
+}
+
+fn desk_findings(block: &[u8]) -> Findings {
+    let (bytes, length) = (block.as_ptr(), block.len());
+    // Sound as the calls only read `length` bytes from a pointer that is never null.
+    unsafe {
+        Findings {
+            kind: dem_record_a_kind(bytes, length),
+            byte: dem_record_a_byte(bytes, length),
+            origin: dem_origin(bytes, length),
+            name_length: dem_name_length(bytes, length),
+        }
+    }
+}
+
+impl Comparison {
+    fn compare(&mut self, block: &[u8]) {
+        let around = &SURROUNDINGS[self.blocks as usize % SURROUNDINGS.len()];
+        self.lent.clear();
+        self.lent.extend_from_slice(around);
+        self.lent.extend_from_slice(block);
+        self.lent.extend_from_slice(around);
+        let lent = &self.lent[around.len()..around.len() + block.len()];
+        let second = second_findings(block);
+        demand_same(self.blocks, block, second, desk_findings(lent));
+        self.blocks += 1;
+        *self.faults.entry((second.kind, second.byte)).or_default() += 1;
+        *self.origins.entry(second.origin).or_default() += 1;
+        *self.name_lengths.entry(second.name_length).or_default() += 1;
+    }
+}
+
+/// A difference ends the run.
+fn demand_same(number: u64, block: &[u8], second: Findings, desk: Findings) {
+    if second == desk {
+        return;
+    }
+    println!("mismatch in block {number} of {} bytes", block.len());
+    println!("second  {second:?}");
+    println!("desk    {desk:?}");
+    for (row, bytes) in block.chunks(64).enumerate().take(16) {
+        println!("{:>5}  \"{}\"", row * 64 + 1, bytes.escape_ascii());
+    }
+    exit(1);
+}
+
+/// Every (kind, byte) that the rules of record A can give.
+fn faults_that_occur() -> Vec<(u32, u32)> {
+    let mut all = vec![(0, 0), (1, 0), (5, 1), (5, 865)];
+    all.extend([(10, 547), (10, 817), (10, 859)]);
+    let codes = [145, 151, 157, 163, 529, 535, 541, 811, 853];
+    all.extend(codes.iter().flat_map(|&byte| [(6, byte), (9, byte)]));
+    all.extend((0..15).map(|place| (6, 169 + place * 24)));
+    let corners = (0..8).map(|place| 547 + place * 24);
+    let reals = corners.chain([739, 763, 787, 817, 829, 841]);
+    all.extend(reals.flat_map(|byte| [(6, byte), (7, byte), (8, byte)]));
+    all.extend([(9, 787), (6, 859), (7, 859)]);
+    all
+}
+
+/// Says what the run left out, or met though no rule gives it.
+fn shortcomings(comparison: &Comparison) -> Vec<String> {
+    let mut found = Vec::new();
+    if comparison.blocks < FEWEST_BLOCKS {
+        found.push(format!("fewer than {FEWEST_BLOCKS} blocks"));
+    }
+    let passed = comparison.faults.get(&(0, 0)).unwrap_or(&0);
+    if passed * 10 < comparison.blocks {
+        found.push("fewer than a tenth of the blocks pass".to_string());
+    }
+    let known = faults_that_occur();
+    for (kind, byte) in &known {
+        if !comparison.faults.contains_key(&(*kind, *byte)) {
+            found.push(format!("kind {kind} at {byte} never seen"));
+        }
+    }
+    for fault in comparison.faults.keys() {
+        if !known.contains(fault) {
+            found.push(format!("kind {} at {} has no rule", fault.0, fault.1));
+        }
+    }
+    for origin in (0..=6).filter(|origin| !comparison.origins.contains_key(origin)) {
+        found.push(format!("origin {origin} never seen"));
+    }
+    for length in (0..=40).filter(|length| !comparison.name_lengths.contains_key(length)) {
+        found.push(format!("no name of {length} bytes"));
+    }
+    found
+}
+
+fn print_tables(comparison: &Comparison) {
+    println!("blocks compared {}", comparison.blocks);
+    println!("{:>5} {:>5} {:>8}", "kind", "byte", "blocks");
+    for ((kind, byte), times) in &comparison.faults {
+        println!("{kind:>5} {byte:>5} {times:>8}");
+    }
+    println!("origins {:?}", comparison.origins);
+    println!("name lengths {:?}", comparison.name_lengths);
+}
+
+fn seed_asked_for() -> u64 {
+    match std::env::args().nth(1) {
+        None => USUAL_SEED,
+        Some(given) => given.parse().unwrap_or_else(|_| {
+            println!("the seed is a whole number from 0 to {}", u64::MAX);
+            exit(2);
+        }),
+    }
+}
+
+fn main() {
+    let seed = seed_asked_for();
+    println!("seed {seed}");
+    let mut dice = Dice::new(seed);
+    let mut comparison = Comparison::default();
+    for family in FAMILIES {
+        let before = comparison.blocks;
+        (family.make)(&mut dice, &mut |block| comparison.compare(block));
+        println!("{:<22} {:>8}", family.name, comparison.blocks - before);
+    }
+    print_tables(&comparison);
+    let found = shortcomings(&comparison);
+    for shortcoming in &found {
+        println!("this run does not count: {shortcoming}");
+    }
+    if !found.is_empty() {
+        exit(1);
+    }
+    println!("no difference");
+}

@@ -1,0 +1,99 @@
+//! Damage aimed at one rule: a profile's fields, posts and place, and the stated extremes.
+
+use super::damage::{damaged, fields_of, nudge, post_field, Field};
+use super::{put, Plan, Sent};
+use crate::block::{Record, BLOCK_LENGTH, HUNDREDTH, INTEGER_WIDTH, UNIT};
+use crate::dice::Dice;
+
+/// A block of a profile with some of its fields or posts replaced, moved or shifted.
+pub fn damaged_profile_block(dice: &mut Dice, plan: &Plan, sent: &Sent) -> Vec<u8> {
+    let mut block = sent.bytes.clone();
+    match sent.record {
+        Record::ProfileStart => damage_start(dice, plan, &mut block),
+        Record::ProfileRest if dice.one_in(2) => {
+            let any = dice.size(0, 169);
+            replace(dice, &[post_field(sent.record, any)], &mut block);
+        }
+        _ => return damaged(dice, sent),
+    }
+    block
+}
+
+/// A wrong place alone, or together with a fault that is judged before or after it: a
+/// loader that keeps anything of such a block goes wrong with the right one.
+fn damage_start(dice: &mut Dice, plan: &Plan, block: &mut [u8]) {
+    let (eastward, northward) = (
+        (25, plan.head.spacings[0], plan.head.columns),
+        (49, plan.head.spacings[1], plan.head.rows),
+    );
+    let choice = dice.size(0, 7);
+    if choice <= 4 {
+        move_along(dice, eastward, block);
+    }
+    if choice == 4 || choice == 5 {
+        move_along(dice, northward, block);
+    }
+    match choice {
+        1 | 6 => replace(dice, fields_of(Record::ProfileStart), block),
+        2 | 7 => {
+            let any = dice.size(0, 145.min(plan.head.rows as usize));
+            replace(dice, &[post_field(Record::ProfileStart, any)], block);
+        }
+        3 => nudge(dice, block, 97, UNIT),
+        _ => {}
+    }
+}
+
+/// Some columns or rows away, on the lattice or a hair beside it.
+fn move_along(dice: &mut Dice, (first, spacing, count): (usize, i64, i64), block: &mut [u8]) {
+    let any = dice.between(0, count);
+    let places = *dice.pick(&[0, 1, 1, any, count]);
+    let beside = *dice.pick(&[0, 0, 0, 0, 1, 1000]);
+    nudge(dice, block, first, places * spacing + beside);
+}
+
+/// One of these fields with one of its telling texts.
+pub fn replace(dice: &mut Dice, fields: &[Field], block: &mut [u8]) {
+    let field = dice.pick(fields);
+    put(block, field.first, &field.telling_text(dice));
+}
+
+/// Makes one or more of the stated extremes wrong; answers the first block touched.
+pub fn misstate(dice: &mut Dice, blocks: &mut [Sent]) -> usize {
+    let starts: Vec<usize> = (0..blocks.len())
+        .filter(|&number| blocks[number].record == Record::ProfileStart)
+        .collect();
+    let any = *dice.pick(&starts);
+    let last = *starts.last().expect("every sheet has a profile");
+    let places = [(any, 97), (any, 121), (last, 121), (0, 739), (0, 763)];
+    let mut touched = blocks.len();
+    for _ in 0..*dice.pick(&[1, 1, 1, 2, 3]) {
+        let &(number, byte) = dice.pick(&places);
+        let by = *dice.pick(&[1, HUNDREDTH, UNIT, 40_000 * UNIT]);
+        nudge(dice, &mut blocks[number].bytes, byte, by);
+        touched = touched.min(number);
+    }
+    touched
+}
+
+/// A value too large or too fine in a real whose value counts, which it does not in
+/// bytes 169 to 528 of record A.
+pub fn spoil_a_real(dice: &mut Dice, record: Record, block: &mut [u8]) {
+    let any_value = |first: usize| record == Record::Header && (169..=528).contains(&first);
+    let reals = fields_of(record)
+        .iter()
+        .filter(|field| field.width > INTEGER_WIDTH);
+    let judged = reals.filter(|field| !any_value(field.first));
+    let judged: Vec<&Field> = judged.collect();
+    let field = dice.pick(&judged);
+    let text = *dice.pick(&["1D+9", "-1D9", "1D-10", ".0000000001", "1.5D-9"]);
+    let text = format!("{text:>width$}", width = field.width);
+    put(block, field.first, text.as_bytes());
+}
+
+/// A byte that no text may hold, in either text of record A.
+pub fn spoil_a_text(dice: &mut Dice, block: &mut [u8]) {
+    let (before, after) = (dice.size(1, 144), dice.size(865, BLOCK_LENGTH));
+    let place = *dice.pick(&[1, 144, before, 865, BLOCK_LENGTH, after]);
+    put(block, place, &[*dice.pick(b"az\0\t\n\x1F\x7F\x80\xFF")]);
+}

@@ -1,0 +1,416 @@
+//! Damage to a block: a field replaced by a text that its rule, or a reading, is about,
+//! a byte changed, bytes shifted, a number moved a little. What comes out may still obey
+//! every rule; that is for the two programs to agree on.
+
+use super::{hand, put, Sent};
+use crate::block::{Record, BLOCK_LENGTH, INTEGER_WIDTH, REAL_WIDTH, SPACING_WIDTH, UNIT};
+use crate::dice::Dice;
+use crate::number;
+
+/// A field and the texts on both sides of its own rule, to stand at its right end.
+#[derive(Clone, Copy)]
+pub struct Field {
+    pub first: usize,
+    pub width: usize,
+    texts: &'static [&'static str],
+}
+
+const fn integer(first: usize, texts: &'static [&'static str]) -> Field {
+    Field {
+        first,
+        width: INTEGER_WIDTH,
+        texts,
+    }
+}
+
+const fn real(first: usize, texts: &'static [&'static str]) -> Field {
+    Field {
+        first,
+        width: REAL_WIDTH,
+        texts,
+    }
+}
+
+const fn spacing(first: usize, texts: &'static [&'static str]) -> Field {
+    Field {
+        first,
+        width: SPACING_WIDTH,
+        texts,
+    }
+}
+
+const NEAR_ONE: &[&str] = &["0", "1", "2", "-1", "+01", "999999", "-99999"];
+const CODES: &[&str] = &["-1", "-0", "0", "1", "2", "10", "999999"];
+const ZONES: &[&str] = &[
+    "-1", "0", "1", "60", "61", "9999", "10000", "999999", "-99999",
+];
+const GROUND_SPACINGS: &[&str] = &[
+    "0",
+    "-1",
+    "1",
+    "0.5",
+    "1.5",
+    "1.00000001",
+    "0.99999999",
+    "9999",
+    "9998.5",
+    "9999.00001",
+    "10000",
+    "-30",
+    "1D-9",
+    "9999D0",
+    "99990D-1",
+    "30.0",
+];
+const HEIGHT_SPACINGS: &[&str] = &[
+    "0",
+    "-0.1",
+    "1",
+    "1.01",
+    "1.1",
+    "2",
+    "0.1",
+    "0.01",
+    "0.011",
+    "0.015",
+    "0.05",
+    "0.2",
+    "0.25",
+    "0.99",
+    "0.9",
+    "0.001",
+    "1D-9",
+    "0.999999999",
+    "0.100000001",
+    "-1",
+    "1D-2",
+    ".1E0",
+    "10",
+];
+const PROFILE_COUNTS: &[&str] = &[
+    "-1", "0", "1", "2", "2047", "2048", "2049", "999999", "-2048",
+];
+const POST_COUNTS: &[&str] = &[
+    "-1", "0", "1", "2", "3", "145", "146", "147", "148", "316", "317", "318", "1201", "2047",
+    "2048", "2049", "999999",
+];
+const DATUMS: &[&str] = &[
+    "10000",
+    "-10000",
+    "10000.01",
+    "-10000.01",
+    "9999.99",
+    "0.01",
+    "0.001",
+    "0.005",
+    "-0.001",
+    "9999.999",
+    "10000.000000001",
+    "1D4",
+    "1D5",
+    "2.5",
+    "1D-10",
+    "1D+9",
+];
+const ANGLES: &[&str] = &["0", "1D-9", "-1D-9", "90", "-0D-99", "0D+99", "0.5"];
+const ELEVATIONS: &[&str] = &[
+    "0", "1D-9", "-0.01", "42767", "-42767", "0.005", "-32767", "1D-10", "1D+9",
+];
+const POSTS: &[&str] = &[
+    "32767", "32768", "-32768", "-32767", "-32766", "+32767", "+32768", "99999", "-99999",
+    "999999", "032767", "0", "-0",
+];
+const ERRORS: &[&str] = &["-1", "-0", "0", "+0", "1", "999999", "-99999"];
+
+pub const HEADER_FIELDS: [Field; 39] = [
+    integer(145, &["-1", "0", "1", "2", "3", "4", "5", "11", "+003"]),
+    integer(151, NEAR_ONE),
+    integer(157, &["-1", "0", "1", "2", "3", "-0", "10"]),
+    integer(163, ZONES),
+    real(169, &[]),
+    real(193, &[]),
+    real(217, &[]),
+    real(241, &[]),
+    real(265, &[]),
+    real(289, &[]),
+    real(313, &[]),
+    real(337, &[]),
+    real(361, &[]),
+    real(385, &[]),
+    real(409, &[]),
+    real(433, &[]),
+    real(457, &[]),
+    real(481, &[]),
+    real(505, &[]),
+    integer(529, &["-1", "0", "1", "2", "3", "4"]),
+    integer(535, &["-1", "0", "1", "2", "3"]),
+    integer(541, &["-4", "0", "3", "4", "5", "+0004", "44"]),
+    real(547, ELEVATIONS),
+    real(571, ELEVATIONS),
+    real(595, ELEVATIONS),
+    real(619, ELEVATIONS),
+    real(643, ELEVATIONS),
+    real(667, ELEVATIONS),
+    real(691, ELEVATIONS),
+    real(715, ELEVATIONS),
+    real(739, ELEVATIONS),
+    real(763, ELEVATIONS),
+    real(787, ANGLES),
+    integer(811, CODES),
+    spacing(817, GROUND_SPACINGS),
+    spacing(829, GROUND_SPACINGS),
+    spacing(841, HEIGHT_SPACINGS),
+    integer(853, NEAR_ONE),
+    integer(859, PROFILE_COUNTS),
+];
+
+pub const PROFILE_FIELDS: [Field; 9] = [
+    integer(1, NEAR_ONE),
+    integer(7, &["-1", "0", "1", "2", "3", "4", "2048", "2049"]),
+    integer(13, POST_COUNTS),
+    integer(19, NEAR_ONE),
+    real(25, ELEVATIONS),
+    real(49, ELEVATIONS),
+    real(73, DATUMS),
+    real(97, ELEVATIONS),
+    real(121, ELEVATIONS),
+];
+
+pub const STATISTICS_FIELDS: [Field; 10] = [
+    integer(1, CODES),
+    integer(7, ERRORS),
+    integer(13, ERRORS),
+    integer(19, ERRORS),
+    integer(25, ERRORS),
+    integer(31, CODES),
+    integer(37, ERRORS),
+    integer(43, ERRORS),
+    integer(49, ERRORS),
+    integer(55, ERRORS),
+];
+
+/// Six bytes each that are no integer.
+const WRONG_INTEGERS: [&[u8]; 18] = [
+    b"      ",
+    b"1     ",
+    b"    1 ",
+    b"   1 1",
+    b"    1.",
+    b"   1.0",
+    b"   1D0",
+    b"     -",
+    b"    - ",
+    b"  -  1",
+    b"   +-1",
+    b"   1-1",
+    b"\t    1",
+    b"    \t1",
+    b"\0    1",
+    b"    1\0",
+    b"\xA0    1",
+    b"ABCDEF",
+];
+
+/// No reals, or reals that pass only in a field as wide as they are.
+const WRONG_REALS: [&[u8]; 24] = [
+    b"",
+    b".",
+    b"-.",
+    b"1..0",
+    b"1.0d+01",
+    b"1.0e1",
+    b"1.0+01",
+    b"1.0D",
+    b"1.0D+",
+    b"1.0D+001",
+    b"D+01",
+    b".D+01",
+    b"- 1.0",
+    b"1 0",
+    b"1.0 D1",
+    b"1,0",
+    b"+-1",
+    b"\t1.0",
+    b"1.0\0",
+    b"\xA01.0",
+    b"1.0D1.0",
+    b"1.0F1",
+    b"0x1",
+    b"--1",
+];
+
+/// At the limits of the readings: size, billionths, digits, mantissas over 64 bits.
+const REALS_AT_THE_LIMITS: [&[u8]; 20] = [
+    b"1D+9",
+    b"-1D9",
+    b"1000000000",
+    b"-1000000000",
+    b"999999999",
+    b"999999999.9",
+    b"1D-10",
+    b".5D-9",
+    b"1D-9",
+    b"1D99",
+    b"1D-99",
+    b"0D99",
+    b"-0D-99",
+    b"123456789.1234567",
+    b"1000000.000000001",
+    b"999999999.999999",
+    b"999999999.9999999",
+    b"10000000000000000000D-19",
+    b"18446744073709551617D-19",
+    b"1000000000.0000000001",
+];
+
+impl Field {
+    /// Every text to try in this field, each as wide as the field.
+    pub fn telling_texts(&self) -> Vec<Vec<u8>> {
+        let mut texts: Vec<Vec<u8>> = self.texts.iter().map(|text| self.right(text)).collect();
+        if self.width == INTEGER_WIDTH {
+            texts.extend(WRONG_INTEGERS.iter().map(|text| text.to_vec()));
+            return texts;
+        }
+        for text in WRONG_REALS.iter().chain(&REALS_AT_THE_LIMITS) {
+            if text.len() <= self.width {
+                texts.push(self.padded(text, 0));
+                texts.push(self.padded(text, self.width - text.len()));
+            }
+        }
+        texts
+    }
+
+    /// One of them, every other time one that is about the field's own rule.
+    pub fn telling_text(&self, dice: &mut Dice) -> Vec<u8> {
+        if !self.texts.is_empty() && dice.one_in(2) {
+            let text: &str = dice.pick::<&str>(self.texts);
+            return self.right(text);
+        }
+        dice.pick(&self.telling_texts()).clone()
+    }
+
+    fn right(&self, text: &str) -> Vec<u8> {
+        self.padded(text.as_bytes(), self.width - text.len())
+    }
+
+    fn padded(&self, text: &[u8], left: usize) -> Vec<u8> {
+        let mut field = vec![b' '; self.width];
+        put(&mut field, left + 1, text);
+        field
+    }
+}
+
+pub fn fields_of(record: Record) -> &'static [Field] {
+    match record {
+        Record::Header => &HEADER_FIELDS,
+        Record::ProfileStart => &PROFILE_FIELDS,
+        Record::ProfileRest => &[],
+        Record::Statistics => &STATISTICS_FIELDS,
+    }
+}
+
+/// A post that a block of `record` may hold, at place `place` from its first.
+pub fn post_field(record: Record, place: usize) -> Field {
+    let first = if record == Record::ProfileStart {
+        145
+    } else {
+        1
+    };
+    integer(first + place * INTEGER_WIDTH, POSTS)
+}
+
+/// The block with one or, at times, more things wrong.
+pub fn damaged(dice: &mut Dice, sent: &Sent) -> Vec<u8> {
+    let mut block = sent.bytes.clone();
+    let times = *dice.pick(&[1, 1, 1, 2, 3]);
+    for _ in 0..times {
+        match dice.size(0, 9) {
+            0..=3 => replace_a_field(dice, sent.record, &mut block),
+            4 | 5 => change_a_byte(dice, &mut block),
+            6 | 7 => nudge_a_real(dice, sent.record, &mut block),
+            8 => mark_the_rest(dice, &mut block),
+            _ => shift_bytes(dice, &mut block),
+        }
+    }
+    block
+}
+
+fn replace_a_field(dice: &mut Dice, record: Record, block: &mut [u8]) {
+    let has_posts = matches!(record, Record::ProfileStart | Record::ProfileRest);
+    let fields = fields_of(record);
+    let field = if has_posts && (fields.is_empty() || dice.one_in(3)) {
+        a_post(dice, record, block)
+    } else {
+        *dice.pick(fields)
+    };
+    put(block, field.first, &field.telling_text(dice));
+}
+
+/// Any post, or one of those around the last.
+fn a_post(dice: &mut Dice, record: Record, block: &[u8]) -> Field {
+    let most = if record == Record::ProfileStart {
+        146
+    } else {
+        170
+    };
+    let last = block.iter().rposition(|&byte| byte != b' ').unwrap_or(0);
+    let count = (last + 1).saturating_sub(post_field(record, 0).first) / INTEGER_WIDTH;
+    let near = dice.size(count.saturating_sub(1), count + 1);
+    let any = dice.size(0, count);
+    post_field(record, (*dice.pick(&[any, any, near])).min(most - 1))
+}
+
+/// Bytes with a meaning in fields, and bytes that no text may hold.
+const TELLING_BYTES: &[u8] = b"0123456789+-.DE  \t\0\x1F\x7F\x80\xA0\xFFaz`{~dez";
+
+fn change_a_byte(dice: &mut Dice, block: &mut [u8]) {
+    let (any, telling) = (dice.byte(), *dice.pick(TELLING_BYTES));
+    let place = dice.size(0, BLOCK_LENGTH - 1);
+    block[place] = *dice.pick(&[any, telling]);
+}
+
+/// Moves a real by as little as a billionth, or by as much as a few columns.
+fn nudge_a_real(dice: &mut Dice, record: Record, block: &mut [u8]) {
+    let wide = fields_of(record)
+        .iter()
+        .filter(|field| field.width == REAL_WIDTH);
+    let wide: Vec<&Field> = wide.collect();
+    if wide.is_empty() {
+        return change_a_byte(dice, block);
+    }
+    let first = dice.pick(&wide).first;
+    let by = *dice.pick(&[1, 1000, UNIT / 100, UNIT / 2, UNIT, 3 * UNIT, 30 * UNIT]);
+    nudge(dice, block, first, by);
+}
+
+/// Adds `by`, or takes it away, if the field reads now and can hold the sum.
+pub fn nudge(dice: &mut Dice, block: &mut [u8], first: usize, by: i64) {
+    let (_, value) = number::real(&block[first - 1..first - 1 + REAL_WIDTH]);
+    let moved = if dice.one_in(2) {
+        value + by
+    } else {
+        value - by
+    };
+    let text = hand::real(dice, moved, REAL_WIDTH);
+    put(block, first, &text);
+}
+
+/// A byte after the last that is not blank, or the very last byte.
+fn mark_the_rest(dice: &mut Dice, block: &mut [u8]) {
+    let last = block.iter().rposition(|&byte| byte != b' ').unwrap_or(0);
+    let any = dice.size(last, BLOCK_LENGTH - 1);
+    let place = *dice.pick(&[any, (last + 1).min(BLOCK_LENGTH - 1), BLOCK_LENGTH - 1]);
+    block[place] = *dice.pick(b"0X\0\t\xA0\n");
+}
+
+/// A byte lost, or one too many, and all after it out of place.
+fn shift_bytes(dice: &mut Dice, block: &mut [u8]) {
+    let place = dice.size(0, BLOCK_LENGTH - 1);
+    if dice.one_in(2) {
+        block[place..].rotate_left(1);
+        block[BLOCK_LENGTH - 1] = b' ';
+    } else {
+        block[place..].rotate_right(1);
+        block[place] = *dice.pick(b" 0");
+    }
+}

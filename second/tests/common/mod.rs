@@ -1,0 +1,84 @@
+//! The sheet of document 01, "The lister, and one sheet", typed out field by field.
+
+#![allow(dead_code)]
+
+pub const VOID: i32 = i32::MIN;
+pub const PAPER_CELLS: [i32; 6] = [1000, VOID, 1200, VOID, 1100, 900];
+
+pub fn put(block: &mut [u8], first: usize, text: &str) {
+    block[first - 1..first - 1 + text.len()].copy_from_slice(text.as_bytes());
+}
+
+/// A block with these texts at these bytes and blanks everywhere else.
+pub fn block_of(fields: &[(usize, &str)]) -> Vec<u8> {
+    let mut block = vec![b' '; 1024];
+    for &(first, text) in fields {
+        put(&mut block, first, text);
+    }
+    block
+}
+
+pub fn paper_header() -> Vec<u8> {
+    let mut block = block_of(&[
+        (1, "A SHEET OF TWO PROFILES"),
+        (141, "WMC "),
+        (145, "     1     1     1    17"),
+        (529, "     2     2     4"),
+        (739, "   0.900000000000000D+01   0.120000000000000D+02"),
+        (787, "   0.000000000000000D+00     0"),
+        (817, "0.300000E+020.300000E+020.100000E+01"),
+        (853, "     1     2"),
+    ]);
+    for place in 0..15 {
+        put(&mut block, 169 + place * 24, "0.0");
+    }
+    let corners = [600, 900, 600, 960, 630, 960, 630, 900];
+    for (place, corner) in corners.iter().enumerate() {
+        let text = format!("   0.{corner}000000000000D+03");
+        put(&mut block, 547 + place * 24, &text);
+    }
+    block
+}
+
+pub fn paper_profiles() -> [Vec<u8>; 2] {
+    [
+        block_of(&[
+            (1, "     1     1     3     1"),
+            (25, "600.0"),
+            (49, "900.0"),
+            (73, "0.0"),
+            (97, "10.0"),
+            (121, "12.0"),
+            (145, "    10-32767    12"),
+        ]),
+        block_of(&[
+            (1, "     1     2     2     1"),
+            (25, "                   630.0"),
+            (49, "                   930.0"),
+            (73, "                     0.0"),
+            (97, "   0.900000000000000D+01"),
+            (121, "   0.110000000000000D+02"),
+            (145, "    11     9"),
+        ]),
+    ]
+}
+
+pub fn paper_blocks() -> Vec<Vec<u8>> {
+    let [first, second] = paper_profiles();
+    vec![paper_header(), first, second]
+}
+
+/// The paper's sheet with a record C to come, up to and without that record.
+pub fn blocks_before_statistics() -> Vec<Vec<u8>> {
+    let mut blocks = paper_blocks();
+    put(&mut blocks[0], 811, "     1");
+    blocks
+}
+
+pub fn statistics(numbers: [i64; 10]) -> Vec<u8> {
+    let mut block = vec![b' '; 1024];
+    for (place, number) in numbers.iter().enumerate() {
+        put(&mut block, 1 + place * 6, &format!("{number:6}"));
+    }
+    block
+}

@@ -1,0 +1,370 @@
+//! Deliveries to the plain loader: the paper's sheet, the order of the kinds, records B
+//! and C on blocks that are right but for one thing, and the customer's accident.
+
+mod common;
+
+use common::{
+    block_of, blocks_before_statistics, paper_blocks, paper_header, put, statistics, PAPER_CELLS,
+};
+use second::block::{HUNDREDTH, UNIT};
+use second::dice::Dice;
+use second::load::{deliver, Answer, Session};
+use second::meaning::{Figures, Refusal};
+use second::profile::elevation;
+use second::scripts::accident;
+use second::sheets::paper_plan;
+
+const ROOM: usize = 8;
+
+fn refused(kind: u32, block: u32, byte: u32) -> Answer {
+    Answer::Refused(Refusal { kind, block, byte })
+}
+
+/// A fresh session that has taken these blocks, and its grid of sevens.
+fn after(blocks: &[Vec<u8>]) -> (Session, Vec<i32>) {
+    let (mut session, mut grid) = (Session::fresh(), vec![7; ROOM]);
+    for (number, block) in blocks.iter().enumerate() {
+        let answer = deliver(&mut session, number as u32, block, &mut grid);
+        assert_eq!(answer, Answer::Taken, "block {number}");
+    }
+    (session, grid)
+}
+
+/// The answer to `bytes` after the first blocks of the paper's sheet; a refusal must
+/// leave all as it was.
+fn answer_after(taken: usize, number: u32, bytes: &[u8], lent: usize) -> Answer {
+    let (mut session, mut grid) = after(&paper_blocks()[..taken]);
+    let before = (session.clone(), grid.clone());
+    let answer = deliver(&mut session, number, bytes, &mut grid[..lent]);
+    if answer != Answer::Taken {
+        assert_eq!((session, grid), before);
+    }
+    answer
+}
+
+#[test]
+fn the_papers_sheet() {
+    let blocks = paper_blocks();
+    let (session, grid) = after(&blocks);
+    assert_eq!(grid[..6], PAPER_CELLS);
+    assert_eq!(grid[6..], [7, 7]);
+    let figures = Figures {
+        closed: 2,
+        posts: 5,
+        filled: 4,
+        least: 900,
+        greatest: 1200,
+    };
+    assert_eq!(session.figures(), figures);
+    assert_eq!(session.taken(), 3);
+    assert!(session.sheet().is_some_and(|sheet| sheet.complete()));
+}
+
+#[test]
+fn the_papers_sheet_in_any_hand() {
+    for seed in 0..300 {
+        let mut dice = Dice::new(seed);
+        let plan = paper_plan(&mut dice);
+        let blocks: Vec<Vec<u8>> = plan
+            .blocks(&mut dice)
+            .into_iter()
+            .map(|b| b.bytes)
+            .collect();
+        let (session, grid) = after(&blocks);
+        assert_eq!(grid[..6], PAPER_CELLS);
+        assert_eq!(session.figures().posts, 5);
+    }
+}
+
+#[test]
+fn cells_after_each_block() {
+    let blocks = paper_blocks();
+    let void = i32::MIN;
+    assert_eq!(after(&blocks[..0]).1, [7; ROOM]);
+    assert_eq!(
+        after(&blocks[..1]).1,
+        [void, void, void, void, void, void, 7, 7]
+    );
+    let (session, grid) = after(&blocks[..2]);
+    assert_eq!(grid, [1000, void, 1200, void, void, void, 7, 7]);
+    assert_eq!((session.figures().posts, session.figures().filled), (3, 2));
+}
+
+#[test]
+fn kinds_in_their_order() {
+    let blocks = paper_blocks();
+    let whole = &blocks[1];
+    let junk = vec![b'X'; 1024];
+    assert_eq!(answer_after(1, 0, &whole[..1023], ROOM), refused(1, 0, 0));
+    assert_eq!(answer_after(1, 9, &[], 0), refused(1, 9, 0));
+    assert_eq!(answer_after(1, 0, &junk, 0), Answer::Held);
+    assert_eq!(answer_after(3, 2, &junk, 0), Answer::Held);
+    assert_eq!(answer_after(1, 2, &junk, 0), refused(3, 2, 0));
+    assert_eq!(answer_after(0, 1, &junk, 0), refused(3, 1, 0));
+    assert_eq!(answer_after(3, u32::MAX, &junk, 0), refused(3, u32::MAX, 0));
+    assert_eq!(answer_after(3, 3, &junk, 0), refused(4, 3, 0));
+    assert_eq!(answer_after(1, 1, &junk, 5), refused(12, 1, 0));
+    assert_eq!(answer_after(1, 1, &junk, 6), refused(6, 1, 1));
+    assert_eq!(answer_after(0, 0, &junk, 0), refused(6, 0, 145));
+    assert_eq!(answer_after(0, 0, &blocks[0], 5), refused(12, 0, 0));
+    assert_eq!(answer_after(0, 0, &blocks[0], 6), Answer::Taken);
+}
+
+/// The answer to the paper's first profile with these texts put into it.
+fn first_profile_with(texts: &[(usize, &str)]) -> Answer {
+    let mut block = paper_blocks()[1].clone();
+    for &(first, text) in texts {
+        put(&mut block, first, text);
+    }
+    answer_after(1, 1, &block, ROOM)
+}
+
+#[test]
+fn fields_of_a_profile() {
+    for (first, text, kind) in [
+        (1, "     2", 9),
+        (1, "1     ", 6),
+        (7, "     2", 9),
+        (7, "     0", 9),
+        (13, "     0", 7),
+        (13, "  2049", 7),
+        (13, "      ", 6),
+        (19, "     0", 9),
+        (25, "6OO.0", 6),
+        (25, "1D+9 ", 7),
+        (49, "1D-10", 8),
+        (73, "10000.01", 7),
+        (73, "0.001", 7),
+        (73, "1D-10", 8),
+        (97, "1.0d1", 6),
+        (121, "1D+9", 7),
+        (145, "-32768", 7),
+        (151, " 32768", 7),
+        (157, "    1 ", 6),
+        (163, "     1", 5),
+    ] {
+        let answer = first_profile_with(&[(first, text)]);
+        assert_eq!(answer, refused(kind, 1, first as u32), "{text} at {first}");
+    }
+    assert_eq!(first_profile_with(&[(1024, "X")]), refused(5, 1, 163));
+    assert_eq!(first_profile_with(&[(13, "     4")]), refused(6, 1, 163));
+    assert_eq!(first_profile_with(&[(13, "     2")]), refused(5, 1, 157));
+}
+
+#[test]
+fn places_of_a_profile() {
+    assert_eq!(first_profile_with(&[(25, "630.0")]), refused(10, 1, 25));
+    assert_eq!(first_profile_with(&[(25, "570.0")]), refused(10, 1, 25));
+    assert_eq!(
+        first_profile_with(&[(25, "600.000000001")]),
+        refused(10, 1, 25)
+    );
+    assert_eq!(first_profile_with(&[(49, "930.0")]), refused(10, 1, 49));
+    assert_eq!(first_profile_with(&[(49, "901.0")]), refused(10, 1, 49));
+    assert_eq!(
+        first_profile_with(&[(25, "1.0  "), (49, "1.0  ")]),
+        refused(10, 1, 25)
+    );
+    // Posts and the rest of the block come before the places, closing after them.
+    assert_eq!(
+        first_profile_with(&[(25, "1.0  "), (1024, "X")]),
+        refused(5, 1, 163)
+    );
+    assert_eq!(
+        first_profile_with(&[(49, "1.0  "), (97, "99.0")]),
+        refused(10, 1, 49)
+    );
+}
+
+#[test]
+fn a_second_profile_stands_right_beside_the_first() {
+    let mut header = paper_header();
+    put(&mut header, 643, &format!("{:24}", 690));
+    let mut blocks = paper_blocks();
+    blocks[0] = header;
+    let answer_at = |first_x: &str, second_x: &str| {
+        let (mut session, mut grid) = (Session::fresh(), [7; 20]);
+        let mut blocks = blocks.clone();
+        put(&mut blocks[1], 25, &format!("{first_x:24}"));
+        put(&mut blocks[2], 25, &format!("{second_x:24}"));
+        deliver(&mut session, 0, &blocks[0], &mut grid);
+        let first = deliver(&mut session, 1, &blocks[1], &mut grid);
+        (first, deliver(&mut session, 2, &blocks[2], &mut grid))
+    };
+    let taken = Answer::Taken;
+    assert_eq!(answer_at("660", "690"), (taken, taken));
+    assert_eq!(answer_at("690", "690").0, refused(10, 1, 25));
+    assert_eq!(answer_at("600", "660"), (taken, refused(10, 2, 25)));
+    assert_eq!(answer_at("630", "630"), (taken, refused(10, 2, 25)));
+}
+
+#[test]
+fn closing_rules() {
+    assert_eq!(first_profile_with(&[(97, "9.99")]), refused(11, 1, 97));
+    assert_eq!(
+        first_profile_with(&[(97, "9.99"), (121, "1.99")]),
+        refused(11, 1, 97)
+    );
+    assert_eq!(
+        first_profile_with(&[(121, "12.000000001")]),
+        refused(11, 1, 121)
+    );
+    for (first, text) in [(739, "8.0"), (763, "13.0")] {
+        let mut blocks = paper_blocks();
+        put(&mut blocks[0], first, &format!("{text:24}"));
+        let (mut session, mut grid) = after(&blocks[..2]);
+        let answer = deliver(&mut session, 2, &blocks[2], &mut grid);
+        assert_eq!(answer, refused(11, 0, first as u32));
+        // Block 0 was taken, so sending it right does not help.
+        assert_eq!(
+            deliver(&mut session, 0, &paper_header(), &mut grid),
+            Answer::Held
+        );
+        // The profile's own extremes come first.
+        put(&mut blocks[2], 121, &format!("{:24}", "11.5"));
+        let answer = deliver(&mut session, 2, &blocks[2], &mut grid);
+        assert_eq!(answer, refused(11, 2, 121));
+    }
+}
+
+#[test]
+fn a_profile_of_voids_states_zeros() {
+    let voids = [(145, "-32767-32767-32767")];
+    assert_eq!(first_profile_with(&voids), refused(11, 1, 97));
+    let stated = |least: &'static str| {
+        let zero = "                     0.0";
+        first_profile_with(&[voids[0], (97, least), (121, zero)])
+    };
+    assert_eq!(stated("                  -0D-99"), Answer::Taken);
+    assert_eq!(stated("                   1D-09"), refused(11, 1, 97));
+}
+
+#[test]
+fn record_c() {
+    let blocks = blocks_before_statistics();
+    let answer_to = |bytes: &[u8]| {
+        let (mut session, mut grid) = after(&blocks);
+        assert!(!session.sheet().expect("block 0 is taken").complete());
+        deliver(&mut session, 3, bytes, &mut grid)
+    };
+    for (numbers, expected) in [
+        ([0, 0, 0, 0, 0, 0, 0, 0, 0, 0], Answer::Taken),
+        ([1, 5, 0, 999_999, 28, 0, 0, 0, 0, 0], Answer::Taken),
+        ([2, 0, 0, 0, 0, 0, 0, 0, 0, 0], refused(9, 3, 1)),
+        ([-1, 0, 0, 0, 0, 0, 0, 0, 0, 0], refused(9, 3, 1)),
+        ([0, 1, -1, 0, 0, 0, 0, 0, 0, 0], refused(9, 3, 7)),
+        ([0, 0, -1, 0, 0, 0, 0, 0, 0, 0], refused(7, 3, 13)),
+        ([1, 0, 0, 0, -1, 0, 0, 0, 0, 0], refused(7, 3, 25)),
+        ([1, 1, 1, 1, 1, 0, 0, 0, 0, 1], refused(9, 3, 55)),
+        ([1, 1, 1, 1, 1, 3, 0, 0, 0, 1], refused(9, 3, 31)),
+    ] {
+        assert_eq!(answer_to(&statistics(numbers)), expected, "{numbers:?}");
+    }
+    let mut block = statistics([0; 10]);
+    put(&mut block, 13, "    -0");
+    assert_eq!(answer_to(&block), Answer::Taken);
+    put(&mut block, 1024, "X");
+    assert_eq!(answer_to(&block), refused(5, 3, 61));
+    put(&mut block, 55, "0     ");
+    assert_eq!(answer_to(&block), refused(6, 3, 55));
+}
+
+#[test]
+fn edge_example_of_a_post() {
+    assert_eq!(elevation(125, UNIT / 10, 25 * UNIT / 10), Some(1500));
+    assert_eq!(elevation(-32767, UNIT / 100, UNIT), None);
+    assert_eq!(elevation(-32766, UNIT, -10_000 * UNIT), Some(-4_276_600));
+    assert_eq!(elevation(32767, UNIT, 10_000 * UNIT), Some(4_276_700));
+    assert_eq!(elevation(-1, HUNDREDTH, 0), Some(-1));
+}
+
+/// The blocks of one profile of `posts` posts, all of them 5.
+fn blocks_of_profile(posts: usize) -> Vec<Vec<u8>> {
+    let mut blocks = vec![block_of(&[
+        (1, "     1     1"),
+        (13, &format!("{posts:6}     1")),
+        (25, "0"),
+        (49, "0"),
+        (73, "0"),
+        (97, "5"),
+        (121, "5"),
+    ])];
+    let (mut byte, mut left) = (145, posts);
+    while left > 0 {
+        if byte == 1021 {
+            blocks.push(vec![b' '; 1024]);
+            byte = 1;
+        }
+        put(blocks.last_mut().expect("never empty"), byte, "     5");
+        byte += 6;
+        left -= 1;
+    }
+    blocks
+}
+
+#[test]
+fn blocks_of_profiles_of_every_length() {
+    let mut header = paper_header();
+    for (place, corner) in [0, 0, 0, 2047, 1, 2047, 1, 0].iter().enumerate() {
+        put(&mut header, 547 + place * 24, &format!("{corner:24}"));
+    }
+    put(&mut header, 739, &format!("{:24}{:24}", 5, 5));
+    put(&mut header, 829, "         1.0");
+    put(&mut header, 859, "     1");
+    for (posts, count) in [
+        (1, 1),
+        (146, 1),
+        (147, 2),
+        (316, 2),
+        (317, 3),
+        (486, 3),
+        (487, 4),
+        (1201, 8),
+        (2048, 13),
+    ] {
+        let blocks = blocks_of_profile(posts);
+        assert_eq!(blocks.len(), count);
+        let (mut session, mut grid) = (Session::fresh(), vec![7; 2048]);
+        assert_eq!(deliver(&mut session, 0, &header, &mut grid), Answer::Taken);
+        for (place, block) in blocks.iter().enumerate() {
+            let number = place as u32 + 1;
+            assert_eq!(
+                deliver(&mut session, number, block, &mut grid),
+                Answer::Taken
+            );
+            let read = if place == 0 { 146 } else { 146 + 170 * place };
+            assert_eq!(session.figures().posts, read.min(posts));
+            assert_eq!(session.figures().closed, usize::from(place + 1 == count));
+        }
+        assert!(grid[..posts].iter().all(|&cell| cell == 500));
+        assert!(grid[posts..].iter().all(|&cell| cell == i32::MIN));
+        assert!(session.sheet().expect("taken").complete());
+    }
+}
+
+#[test]
+fn the_customers_accident_moves_no_post() {
+    for seed in 0..6 {
+        let mut dice = Dice::new(seed);
+        let plan = accident::plan(&mut dice);
+        let sixth = accident::sixth_block(&plan, 0);
+        let blocks = plan.blocks(&mut dice);
+        let (mut calm, mut dropped) = (Session::fresh(), Session::fresh());
+        let mut calm_grid = vec![7; plan.cells()];
+        let mut dropped_grid = calm_grid.clone();
+        for (number, block) in blocks.iter().enumerate() {
+            let answer = deliver(&mut calm, number as u32, &block.bytes, &mut calm_grid);
+            assert_eq!(answer, Answer::Taken);
+            let number = number as u32;
+            let answer = deliver(&mut dropped, number, &block.bytes, &mut dropped_grid);
+            assert_eq!(answer, Answer::Taken);
+            if number as usize == sixth {
+                let again = deliver(&mut dropped, number, &block.bytes, &mut dropped_grid);
+                assert_eq!(again, Answer::Held);
+            }
+        }
+        assert_eq!(calm, dropped);
+        assert_eq!(calm_grid, dropped_grid);
+        assert!(calm.sheet().expect("taken").complete());
+    }
+}
