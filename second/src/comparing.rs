@@ -1,6 +1,8 @@
 //! What the comparisons with another program have in common: their arguments, inputs in
 //! turn on all processors up to the first difference, and how a run ends.
 
+use crate::dice::Dice;
+use crate::runner;
 use std::collections::BTreeMap;
 use std::process::exit;
 use std::str::FromStr;
@@ -43,6 +45,25 @@ fn number<T: FromStr>(given: &[String], place: usize, usage: &str) -> Option<T> 
 fn explain(usage: &str) -> ! {
     println!("usage: {usage}");
     exit(2);
+}
+
+/// What the program writes for this input. Every 21st input comes in pieces, cut at any
+/// byte; 21 has no divisor in common with the 100 shares, so all families get their turn.
+pub fn output_of(asked: &Asked, number: usize, input: &[u8]) -> Result<Vec<u8>, String> {
+    if number % 21 != 5 {
+        return runner::run(&asked.program, input);
+    }
+    let mut dice = Dice::numbered(!asked.seed, number);
+    let mut cuts: Vec<usize> = (0..5).map(|_| dice.size(0, input.len())).collect();
+    cuts.sort_unstable();
+    let mut pieces = Vec::new();
+    let mut start = 0;
+    for cut in cuts {
+        pieces.push(&input[start..cut]);
+        start = cut;
+    }
+    pieces.push(&input[start..]);
+    runner::run_in_pieces(&asked.program, &pieces)
 }
 
 /// What differed, in words, and the input that showed it.

@@ -8,6 +8,7 @@ mod whole;
 
 use crate::block::BLOCK_LENGTH;
 use crate::dice::Dice;
+use crate::sheets::shapes::{long_plan, small_plan};
 use crate::sheets::{Plan, Sent};
 use crate::turns::turn_of;
 
@@ -22,7 +23,7 @@ pub struct Family {
 pub const FAMILIES: &[Family] = &[
     Family {
         name: "whole sheets",
-        share: 8,
+        share: 7,
         make: whole::small,
     },
     Family {
@@ -42,7 +43,7 @@ pub const FAMILIES: &[Family] = &[
     },
     Family {
         name: "around the cells lent",
-        share: 8,
+        share: 9,
         make: whole::around_the_cells_lent,
     },
     Family {
@@ -108,6 +109,14 @@ pub fn make(seed: u64, number: usize, cells: usize) -> Made {
     Made {
         family: family.name,
         bytes: (family.make)(&mut Dice::numbered(seed, number), cells),
+    }
+}
+
+fn some_plan(dice: &mut Dice) -> Plan {
+    if dice.one_in(2) {
+        long_plan(dice)
+    } else {
+        small_plan(dice)
     }
 }
 

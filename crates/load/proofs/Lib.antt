@@ -13,3 +13,4 @@ pub mod Readiness
 pub mod Gates
 pub mod Answers
 pub mod SoundOut
+pub mod BlockCounts

@@ -6,7 +6,6 @@
 use second::block::USUAL_CELLS;
 use second::comparing::{self, line_difference, Asked, Mismatch, Note, Wanted};
 use second::lister::{self, Outcome};
-use second::runner;
 use second::streams::shown::{names, shown};
 use second::streams::{self, FAMILIES};
 
@@ -20,7 +19,7 @@ fn compare(asked: &Asked, number: usize) -> Result<Note, Mismatch> {
     let cells = asked.fourth.unwrap_or(USUAL_CELLS);
     let made = streams::make(asked.seed, number, cells);
     let expected = lister::list(&made.bytes, cells);
-    let difference = match runner::run(&asked.program, &made.bytes) {
+    let difference = match comparing::output_of(asked, number, &made.bytes) {
         Err(reason) => Some(format!("the program {reason}")),
         Ok(found) => line_difference(expected.output().as_bytes(), &found),
     };

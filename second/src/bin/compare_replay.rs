@@ -6,7 +6,6 @@ use second::block::Record;
 use second::comparing::{self, Asked, Mismatch};
 use second::load::Answer;
 use second::replay::{self, Event, Outcome};
-use second::runner;
 use second::scripts::accident::THE_CUSTOMERS_ACCIDENT;
 use second::scripts::{self, FAMILIES};
 use std::collections::BTreeMap;
@@ -70,7 +69,7 @@ fn kind_and_byte(event: &Event) -> (i64, u32) {
 fn compare(asked: &Asked, number: usize) -> Result<(&'static str, Outcome), Mismatch> {
     let made = scripts::make(asked.seed, number);
     let mut expected = replay::run(&made.bytes);
-    let found = runner::run(&asked.program, &made.bytes);
+    let found = comparing::output_of(asked, number, &made.bytes);
     let difference = match found {
         Err(reason) => Some(format!("the program {reason}")),
         Ok(found) => comparing::line_difference(expected.output.as_bytes(), &found),

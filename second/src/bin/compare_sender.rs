@@ -8,7 +8,6 @@ use second::comparing::{self, line_difference, Asked, Mismatch, Note, Wanted};
 use second::lister;
 use second::orders::shown::{names, shown};
 use second::orders::{self, FAMILIES};
-use second::runner;
 use second::sender::{self, parts_of, Outcome};
 
 const USAGE: &str = "compare_sender PROGRAM [SEED] [SHEETS]";
@@ -36,7 +35,7 @@ const OUTCOMES: [&str; 11] = [
 fn compare(asked: &Asked, number: usize) -> Result<Note, Mismatch> {
     let made = orders::make(asked.seed, number);
     let expected = sender::run(&made.bytes);
-    let found = runner::run(&asked.program, &made.bytes);
+    let found = comparing::output_of(asked, number, &made.bytes);
     match fault_of(&made.bytes, &expected, found) {
         None => Ok(note(&made, &expected)),
         Some(fault) => Err(Mismatch {

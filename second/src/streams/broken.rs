@@ -1,14 +1,14 @@
 //! Sheets with something wrong in a block, in what they state, or in the order of their
 //! blocks. Some go on after their end too: what comes first is named.
 
-use super::{joined, sent_on};
+use super::{joined, sent_on, some_plan};
 use crate::block::{put, Record, BLOCK_LENGTH};
 use crate::dice::Dice;
 use crate::scripts::accident;
 use crate::sheets::aimed::{damaged_profile_block, misstate, replace, spoil_a_real, spoil_a_text};
 use crate::sheets::damage::{damaged, fields_of, post_field};
-use crate::sheets::shapes::{long_plan, small_plan};
-use crate::sheets::{Plan, Sent};
+use crate::sheets::shapes::small_plan;
+use crate::sheets::Sent;
 
 pub fn header(dice: &mut Dice, _cells: usize) -> Vec<u8> {
     let plan = small_plan(dice);
@@ -24,14 +24,6 @@ pub fn header(dice: &mut Dice, _cells: usize) -> Vec<u8> {
         _ => blocks[0].bytes = damaged(dice, &blocks[0]),
     }
     sent_on(dice, &blocks)
-}
-
-fn some_plan(dice: &mut Dice) -> Plan {
-    if dice.one_in(2) {
-        long_plan(dice)
-    } else {
-        small_plan(dice)
-    }
 }
 
 /// One block of a profile, or two: then only the first counts.

@@ -1,18 +1,12 @@
 //! Sheets that end too soon, and sheets after whose end more comes.
 
-use super::{joined, tail};
+use super::{joined, some_plan, tail};
 use crate::block::BLOCK_LENGTH;
 use crate::dice::Dice;
-use crate::sheets::shapes::{long_plan, small_plan};
 use crate::sheets::Sent;
 
 fn some_sheet(dice: &mut Dice) -> Vec<Sent> {
-    let plan = if dice.one_in(2) {
-        long_plan(dice)
-    } else {
-        small_plan(dice)
-    };
-    plan.blocks(dice)
+    some_plan(dice).blocks(dice)
 }
 
 /// No block, block 0 alone, all but the last, or any number between.

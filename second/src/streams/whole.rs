@@ -1,4 +1,4 @@
-//! Whole sheets and nothing else, of sizes that fit and a few that do not.
+//! Whole sheets of every shape, and sheets about as large as the cells lent.
 
 use super::{joined, sent_on, stream_of};
 use crate::block::HUNDREDTH;
@@ -9,7 +9,7 @@ use crate::sender::{self, Outcome};
 use crate::sheets::aimed::spoil_a_text;
 use crate::sheets::damage::damaged;
 use crate::sheets::shapes::{long_plan, small_plan, wide_plan, with_few_profiles};
-use crate::sheets::{plan, Plan};
+use crate::sheets::{plan, put, Plan};
 
 /// Most columns and most rows of a sheet.
 const MOST: i64 = 2048;
@@ -41,7 +41,7 @@ pub fn long(dice: &mut Dice, _cells: usize) -> Vec<u8> {
 
 /// At times with all the profiles there can be.
 pub fn wide(dice: &mut Dice, _cells: usize) -> Vec<u8> {
-    let plan = if dice.one_in(8) {
+    let plan = if dice.one_in(4) {
         let rows = dice.between(1, 7);
         every_profile(dice, MOST, rows)
     } else {
@@ -69,13 +69,13 @@ pub fn around_the_cells_lent(dice: &mut Dice, cells: usize) -> Vec<u8> {
     }
     let mut blocks = sheet.blocks(dice);
     let any = dice.size(1, blocks.len() - 1);
-    let seldom = if sheet.cells() > cells { 7 } else { 24 };
+    let seldom = if sheet.cells() > cells { 8 } else { 24 };
     match dice.size(0, seldom) {
         0 | 1 => blocks.truncate(1),
-        2 => blocks[any].bytes = damaged(dice, &blocks[any]),
-        3 => blocks[0].bytes = damaged(dice, &blocks[0]),
-        4 => spoil_a_text(dice, &mut blocks[0].bytes),
-        5 => return sent_on(dice, &blocks),
+        2 | 3 => put(&mut blocks[any].bytes, 1, b"     X"),
+        4 => blocks[0].bytes = damaged(dice, &blocks[0]),
+        5 => spoil_a_text(dice, &mut blocks[0].bytes),
+        6 => return sent_on(dice, &blocks),
         _ => {}
     }
     joined(&blocks)

@@ -1,0 +1,59 @@
+-- The front of the grid that is run has as many cells as the script names.
+use mathlib.Core.Path.{subst}
+use lib.IntN.{pos}
+use Rattle.replay.specs.Script.{Fitting}
+use Rattle.replay.proofs.Parts.{front-of}
+use borrow.Author.Needs.{needs}
+use Rattle.replay.proofs.main.Statement.{statement}
+use Rattle.replay.proofs.main.Tie as tie
+
+slice-aggregate-read-full : tie.Need-slice-aggregate-read-full
+slice-aggregate-read-full c = search needs
+
+read-full-requires : tie.Need-read-full-requires
+read-full-requires c κs = search needs
+
+cells-of-requires : tie.Need-cells-of-requires
+cells-of-requires c κs = search needs
+
+enum-known-cells : tie.Need-enum-known-cells
+enum-known-cells c = search needs
+
+array-borrow-prefix-grid : tie.Need-array-borrow-prefix-grid
+array-borrow-prefix-grid c = subst Fitting (c .before .cells .given .1) (c .before .before .before .cells-of .ensures .1)
+
+slice-aggregate-run : tie.Need-slice-aggregate-run
+slice-aggregate-run c =
+    let k = c .before .before in
+    front-of (k .cells .given .0 .0) 15000 (pos 7) (subst Fitting (k .cells .given .1) (k .before .before .cells-of .ensures .1))
+
+run-requires : tie.Need-run-requires
+run-requires c κs = search needs
+
+enum-told : tie.Need-enum-told
+enum-told c = search needs
+
+write-bad-requires : tie.Need-write-bad-requires
+write-bad-requires c κs = search needs
+
+returns : tie.Need-returns
+returns c = search needs
+
+returns-2 : tie.Need-returns-2
+returns-2 c = search needs
+
+pub main-spec : {M : Type 1} → statement M
+main-spec =
+    tie.close
+    (tie.spec
+    slice-aggregate-read-full
+    read-full-requires
+    cells-of-requires
+    enum-known-cells
+    array-borrow-prefix-grid
+    slice-aggregate-run
+    run-requires
+    enum-told
+    write-bad-requires
+    returns
+    returns-2)

@@ -1,0 +1,39 @@
+-- DESIGN, "Programs' interfaces", `replay`: what the bytes of a script say.
+use mathlib.Core.Bool.{cond}
+use mathlib.Core.List.{List}
+use Prim.Native.Nat.{ℕ, _+_, _*_, _≤_}
+use lib.Dec.{eqb, ltb}
+use lib.ListN.{getD}
+use Rattle.replay.specs.declared.script.Cells.{Cells}
+use Rattle.replay.specs.declared.script.Cells.the-variants.{Count, Bad as NoCount}
+use Rattle.replay.specs.declared.script.Head.{Head}
+use Rattle.replay.specs.declared.script.Head.the-variants.{Delivery, End, Bad}
+
+-- "Numbers of four bytes stand largest byte first."
+abbrev pub numberOf : ℕ → ℕ → ℕ → ℕ → ℕ
+numberOf a b c d = ((a * 256 + b) * 256 + c) * 256 + d
+
+abbrev pub numberAt : List ℕ → ℕ → ℕ
+numberAt text at = numberOf (getD text at 0) (getD text (at + 1) 0) (getD text (at + 2) 0) (getD text (at + 3) 0)
+
+-- "four bytes, the cells of the grid (at most 15,000)"; "an input of fewer than four bytes .. gets the line `bad script`"
+abbrev pub countFrom : ℕ → ℕ → Cells
+countFrom got cells = cond (eqb got 4) (cond (ltb 15000 cells) NoCount (Count cells)) NoCount
+
+-- "cells lent of that grid's front (4 bytes, at most all), block number (4 bytes, unsigned), length (4 bytes, at most 4,096)";
+-- the script ends where a delivery would begin, and is bad where it ends inside these twelve bytes
+abbrev pub headFrom : ℕ → ℕ → ℕ → ℕ → ℕ → Head
+headFrom got cells lent number bytes =
+    cond (eqb got 0) End
+    (cond (eqb got 12) (cond (ltb cells lent) Bad (cond (ltb 4096 bytes) Bad (Delivery lent number bytes))) Bad)
+
+-- what the callers lend by: a count within the whole grid
+abbrev pub Fitting : Cells → Type 0
+Fitting (Count n) = n ≤ 15000
+Fitting NoCount = Unit {0}
+
+-- what the callers lend by: cells within the grid, bytes within the block
+abbrev pub Within : ℕ → Head → Type 0
+Within cells (Delivery lent number bytes) = (lent ≤ cells) × (bytes ≤ 4096)
+Within cells End = Unit {0}
+Within cells Bad = Unit {0}
