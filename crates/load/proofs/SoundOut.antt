@@ -66,12 +66,15 @@ use Rattle.profile.specs.declared.record_b.Head.{Head}
 use Rattle.profile.specs.declared.record_b.Headed.{Headed}
 use Rattle.profile.specs.declared.record_b.Headed.the-variants.{Profile as Headed·Profile, Refused as NoProfile}
 use Rattle.profile.proofs.RecordLaws.{head-bounds, head-reals}
-use Rattle.load.specs.Posts.{postsFault, postsOf, tallyAll}
+use Rattle.load.specs.Posts.{void, postsFault, postsOf, tallyAll}
 use Rattle.load.specs.declared.Answer.the-variants.{Refused}
 use Rattle.load.specs.declared.posts.Tally.{Tally}
 use Rattle.load.specs.Deliver.{
   Verdict,
+  again,
   wrong,
+  begins,
+  fills,
   answerOf,
   begun,
   beginning,
@@ -100,10 +103,10 @@ use Rattle.load.specs.Deliver.{
   verdictOf,
   zOf,
 }
-use Rattle.load.proofs.Heights.{heights-length}
+use Rattle.load.proofs.Heights.{Cell, heights-length, heights-cells}
 use Rattle.load.proofs.Placed.{row-room, column-room}
 use Rattle.load.proofs.Readiness.{ready-of, sheet-whole}
-use Rattle.load.proofs.Scans.{posts-length, scan-fair}
+use Rattle.load.proofs.Scans.{posts-length, posts-in-range, scan-fair}
 use Rattle.load.proofs.Tallies.{Fair, InOrder, tally-filled, filled-within}
 
 -- ---- block 0: what is read keeps the fields' rules
@@ -290,6 +293,7 @@ pub record Grows (s : Session) (column : ℕ) (p : Profile) (hs : List ℤ) : Ty
   pub first : p .read + length hs < p .posts → 146 ≤ p .read + length hs
   pub step : p .read + length hs < p .posts → (p .read + length hs - 146) % 170 ≡ 0
   pub count : p .read + length hs < p .posts → openBlocks s ≡ (p .read + length hs - 146) / 170
+  pub cells : (i : ℕ) → i < length hs → Cell (getD hs i void)
 
 module _ (s : Session) (column : ℕ) (p : Profile) (hs : List ℤ) (g : Grows s column p hs) where
   few : tallyAll (sheetTally s) hs .filled ≤ s .posts + length hs
@@ -386,6 +390,11 @@ module _ (s : Session) (f : Begun s) (p : Profile) (byte n : ℕ) (block : List 
       (header-facts (s .header) (f .header) .zstep .greatest)
       datum
 
+  cells-with : (i : ℕ) → i < length (heightsHere s p byte n block) → Cell (getD (heightsHere s p byte n block) i void)
+  cells-with =
+      heights-cells (zOf (s .header)) (p .datum) (postsOf n byte block) (header-facts (s .header) (f .header) .zstep .greatest) datum
+      (λ i k. posts-in-range n byte block (posts-fine byte n block z) i (omega (arith, posts-length n byte block, k)))
+
 -- the next block of the open profile
 pub further-grows : (s : Session) (block : List ℕ) → Begun s → busy s ≡ true
     → blockFault 1 (postsHere (s .profile) 170) block .kind ≡ 0
@@ -421,6 +430,7 @@ further-grows s block f b z =
       first = λ k. omega (arith, from);
       step = λ k. omega (arith, long, step, from, k);
       count = λ k. omega (arith, long, step, from, k, blocks);
+      cells = cells-with s f p 1 n block z (q .datum);
     }
 
 -- the first block of a profile
@@ -461,6 +471,7 @@ opening-grows s block h t due idle below e z c r =
       first = λ k. omega (arith, long, k);
       step = λ k. omega (arith, long, k);
       count = λ k. omega (arith, long, k, blocks);
+      cells = cells-with s f p 145 n block z datum;
     }
 
 -- a profile that opens: it stays open, or its only block closes it
@@ -478,9 +489,17 @@ sound-opened s block h t due idle below e z c r hs is =
 
 -- ---- a verdict, test by test
 
--- the session that a verdict leaves is sound
+-- "each filled cell lies from -4,276,700 to 4,276,700": so does every height that a verdict fills a cell with, or it is void
+abbrev pub Cells : Verdict → Type 0
+Cells again = Unit {0}
+Cells (wrong kind block byte) = Unit {0}
+Cells (begins h) = Unit {0}
+Cells (fills after at hs) = (i : ℕ) → i < length hs → Cell (getD hs i void)
+
+-- the session that a verdict leaves is sound, and so are the cells
 record Fine (s : Session) (v : Verdict) : Type 0 where
   is : sound (answerOf s v .session) ≡ true
+  cells : Cells v
 
 pick : {s : Session} (b : Bool) {v w : Verdict} → (b ≡ true → Fine s v) → (b ≡ false → Fine s w) → Fine s (cond b v w)
 pick true f g = f refl
@@ -488,15 +507,15 @@ pick false f g = g refl
 
 module _ (s : Session) (t : sound s ≡ true) where
   kept : (kind block byte : ℕ) → Fine s (wrong kind block byte)
-  kept kind block byte = record { is = t }
+  kept kind block byte = record { is = t; cells = tt }
 
   filling-fine : (number column : ℕ) (p : Profile) (hs : List ℤ) → Grows s column p hs → Fine s (filling s number column p hs)
   filling-fine number column p hs g =
       pick (ltb (p .read + length hs) (p .posts))
-      (λ e. record { is = sound-filled s column p hs g (ltb-true (p .read + length hs) (p .posts) e) })
+      (λ e. record { is = sound-filled s column p hs g (ltb-true (p .read + length hs) (p .posts) e); cells = g .cells })
       (λ e.
       pick (eqb (closeFault (number - openBlocks s) (filledSession s column p hs) .kind) 0)
-      (λ k. record { is = sound-closed s column p hs g (ltb-false (p .read + length hs) (p .posts) e) })
+      (λ k. record { is = sound-closed s column p hs g (ltb-false (p .read + length hs) (p .posts) e); cells = g .cells })
       (λ k. kept _ _ _))
 
   beginning-fine : (cells : ℕ) (block : List ℕ) → Fine s (beginning cells (recordA block))
@@ -504,7 +523,7 @@ module _ (s : Session) (t : sound s ≡ true) where
     where
       go : (c : Checked) → recordA block ≡ c → Fine s (beginning cells c)
       go (NoSheet kind byte) e = kept kind 0 byte
-      go (Sheet h) e = pick (ltb cells (cellsOf h)) (λ k. kept 12 0 0) (λ k. record { is = sound-begun block h e })
+      go (Sheet h) e = pick (ltb cells (cellsOf h)) (λ k. kept 12 0 0) (λ k. record { is = sound-begun block h e; cells = tt })
 
   module _ (due : 1 ≤ s .taken) (number : ℕ) (block : List ℕ) where
     facts : Begun s
@@ -563,7 +582,7 @@ module _ (s : Session) (t : sound s ≡ true) where
         (λ k.
         let all : s .closed ≡ s .header .profiles = omega (arith, facts .closed, ltb-false (s .closed) (s .header .profiles) k) in
         let u = unfinished-is c all in
-        pick (eqb (recordC block .kind) 0) (λ z. record { is = sound-finished s facts idle all (u .0) (u .1) })
+        pick (eqb (recordC block .kind) 0) (λ z. record { is = sound-finished s facts idle all (u .0) (u .1); cells = λ i k. absurd (omega (arith, k)) })
         (λ z. kept _ _ _)))
 
   verdict-fine : (number : ℕ) (block : List ℕ) (cells : ℕ) → Fine s (verdictOf s number block cells)
@@ -573,7 +592,7 @@ module _ (s : Session) (t : sound s ≡ true) where
       (λ a.
       pick (not (sound s)) (λ b. kept 2 number 0)
       (λ b.
-      pick (ltb number (s .taken)) (λ d. record { is = t })
+      pick (ltb number (s .taken)) (λ d. record { is = t; cells = tt })
       (λ d.
       pick (ltb (s .taken) number) (λ e. kept 3 number 0)
       (λ e.
@@ -598,6 +617,10 @@ taken-out s number block grid t = taken-bound (deliverOf s number block grid .se
 pub posts-out : (s : Session) (number : ℕ) (block : List ℕ) (grid : List ℤ) → sound s ≡ true
     → deliverOf s number block grid .session .posts ≤ 4194304
 posts-out s number block grid t = posts-bound (deliverOf s number block grid .session) (sound-out s number block grid t)
+
+pub cells-out : (s : Session) (number : ℕ) (block : List ℕ) (grid : List ℤ) → sound s ≡ true
+    → Cells (verdictOf s number block (length grid))
+cells-out s number block grid t = verdict-fine s t number block (length grid) .cells
 
 -- a session that is not sound is refused, 1 or 2, and handed back as it was
 pub unsound-kept : (s : Session) (number : ℕ) (block : List ℕ) (grid : List ℤ) → sound s ≡ false
