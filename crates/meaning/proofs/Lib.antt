@@ -1,0 +1,15 @@
+pub mod Lists
+pub mod Starts
+pub mod Joined
+pub mod Counted
+pub mod SessionGrows
+pub mod Placed
+pub mod EachPost
+pub mod GridGrows
+pub mod Verdicts
+pub mod LaterBlocks
+pub mod RulesGrow
+pub mod LaterVerdict
+pub mod OneDelivery
+pub mod Runs
+pub mod Demand3

@@ -1,0 +1,411 @@
+-- One delivery to a desk whose session and grid are what a text means: it is answered as the text says, and session and grid are then
+-- what the text with the block, if taken, means. The verdicts of LaterVerdict, test by test, carry it.
+use mathlib.Core.Bool.{Bool, true, false, cond, not}
+use mathlib.Core.List.{List, [], _∷_, _++_}
+use mathlib.Core.Path.{_≡_, refl, sym, _∙_, ap, ap₂}
+use Prim.Native.Nat.{ℕ, zero, suc, _+_, _*_, _-_, _/_, _≤_, _<_}
+use native.Mathlib.Nat.{add-assoc}
+use native.Mathlib.Omega.{arith}
+use borrow.Author.Tests.{ltb-true, ltb-false, lt-ltb, le-ltb, leb-true, leb-false, eq-eqb, ne-eqb, eqb-true, eqb-false}
+use lib.Dec.{leb, ltb, eqb}
+use lib.IntN.{ℤ}
+use lib.ListN.{length, drop, replicate, length-append}
+use lib.Seq.{sets}
+use Rattle.laws.proofs.Tests.{clash}
+use Rattle.number.proofs.GrammarParts.{by-test}
+use Rattle.sheet.specs.RecordA.{faultOf, headerOf, recordA, rowsOf, columnsOf}
+use Rattle.sheet.specs.declared.record_a.Header.{Header}
+use Rattle.session.specs.Session.{fresh, noProfile, sound}
+use Rattle.session.specs.declared.Session.{Session}
+use Rattle.load.specs.Posts.{void, filledIn}
+use Rattle.load.specs.Deliver.{
+  Verdict,
+  again,
+  wrong,
+  begins,
+  fills,
+  answerOf,
+  cellsBy,
+  cellsOf,
+  begun,
+  beginning,
+  later,
+  complete,
+  nextCell,
+  deliverOf,
+  cellsAfter,
+  verdictOf,
+}
+use Rattle.load.specs.declared.Answer.{Answer}
+use Rattle.load.specs.declared.Delivered.{Delivered}
+use Rattle.load.specs.declared.Answer.the-variants.{Taken, Held, Refused}
+use Rattle.load.proofs.SoundOut.{sound-out}
+use Rattle.meaning.specs.Text.{blockAt, blocksIn, headerIn, profilesIn, rowsIn, columnsIn, cellsIn, startOf, postsIn, heightsIn, allHeights, columnIn, rowIn, cellOfPost}
+use Rattle.meaning.specs.Rules.{Breach, breach, firstBreach, filledOnly, leastOf, greatestOf, isComplete, inBlock, endOf}
+use Rattle.meaning.specs.Means.{closedIn, isOpen, begunSession, sessionOf, gridOf}
+use Rattle.meaning.specs.Deliveries.{Reader, Keeps, Delivery, Desk, refusedBy, answerTo, atFirst, answered, after, bytesIf}
+use Rattle.meaning.proofs.Lists.{append-nil, joined-empty}
+use Rattle.meaning.proofs.Starts.{next-start, start-from, none-yet, closed-is}
+use Rattle.meaning.proofs.Joined.{Extends, Here, join-extends, header-same, same-start, newHeights}
+use Rattle.meaning.proofs.SessionGrows.{readSoFar, closed-here}
+use Rattle.meaning.proofs.Verdicts.{byBreach}
+use Rattle.meaning.proofs.Placed.{placed-at}
+use Rattle.meaning.proofs.EachPost.{grid-length}
+use Rattle.meaning.proofs.RulesGrow.{first-due-broken, first-due-kept}
+use Rattle.meaning.proofs.GridGrows.{grid-grows, grid-idle, grid-begun}
+use Rattle.meaning.proofs.LaterVerdict.{profile-verdict, finish-verdict, complete-breach, here-now, all-now, incomplete, complete-is, behind}
+
+-- whole blocks that break no rule, in a grid long enough for their sheet; the session that they mean is sound
+pub record Good (text : List ℕ) (lent : List ℤ) : Type 0 where
+  pub whole : length text ≡ 1024 * blocksIn text
+  pub kept : 1 ≤ blocksIn text → firstBreach text .kind ≡ 0
+  pub room : 1 ≤ blocksIn text → cellsIn text ≤ length lent
+  pub sound-is : sound (sessionOf text) ≡ true
+
+-- what a verdict and an answer have to do with each other, for a block delivered after a text
+record Fits (text : List ℕ) (lent : List ℤ) (block : List ℕ) (v : Verdict) (a : Answer) : Type 0 where
+  answer-is : answerOf (sessionOf text) v .answer ≡ a
+  session-is : answerOf (sessionOf text) v .session ≡ sessionOf (text ++ bytesIf a block)
+  grid-is : cellsBy (gridOf text lent) v ≡ gridOf (text ++ bytesIf a block) lent
+  whole-is : length (text ++ bytesIf a block) ≡ 1024 * blocksIn (text ++ bytesIf a block)
+  kept-is : 1 ≤ blocksIn (text ++ bytesIf a block) → firstBreach (text ++ bytesIf a block) .kind ≡ 0
+  room-is : 1 ≤ blocksIn (text ++ bytesIf a block) → cellsIn (text ++ bytesIf a block) ≤ length lent
+
+module _ (text : List ℕ) (lent : List ℤ) (block : List ℕ) where
+  pick : (b : Bool) {v w : Verdict} {a d : Answer} → (b ≡ true → Fits text lent block v a) → (b ≡ false → Fits text lent block w d)
+      → Fits text lent block (cond b v w) (cond b a d)
+  pick true f g = f refl
+  pick false f g = g refl
+
+  same-fits : {v w : Verdict} {a d : Answer} → v ≡ w → a ≡ d → Fits text lent block w d → Fits text lent block v a
+  same-fits p q f = rw (p, q) f
+
+  module _ (good : Good text lent) where
+    nothing : (a : Answer) → bytesIf a block ≡ [] → (v : Verdict) → answerOf (sessionOf text) v ≡ record { answer = a; session = sessionOf text }
+        → cellsBy (gridOf text lent) v ≡ gridOf text lent → Fits text lent block v a
+    nothing a none v e g =
+        let t : text ++ bytesIf a block ≡ text = ap (λ (l : List ℕ). text ++ l) none ∙ append-nil text in
+        record {
+          answer-is = ap (λ d. d .answer) e;
+          session-is = ap (λ d. d .session) e ∙ ap sessionOf (sym t);
+          grid-is = g ∙ ap (λ (l : List ℕ). gridOf l lent) (sym t);
+          whole-is = rw t (good .whole);
+          kept-is = λ some. rw t (good .kept (rw t at some));
+          room-is = λ some. rw t (good .room (rw t at some));
+        }
+
+    refused : (kind number byte : ℕ) → Fits text lent block (wrong kind number byte) (Refused kind number byte)
+    refused kind number byte = nothing (Refused kind number byte) refl (wrong kind number byte) refl refl
+
+    held : Fits text lent block again Held
+    held = nothing Held refl again refl refl
+
+    by-breach : (b : Breach) {v : Verdict} {a : Answer} → (b .kind ≡ 0 → Fits text lent block v a)
+        → Fits text lent block (byBreach b v) (refusedBy b a)
+    by-breach b f = pick (eqb (b .kind) 0) (λ e. f (eqb-true (b .kind) 0 e)) (λ e. refused (b .kind) (b .block) (b .byte))
+
+    module _ (one : length block ≡ 1024) where
+      joins : Extends text (text ++ block) block (blocksIn text)
+      joins = join-extends text block (blocksIn text) (good .whole) one
+
+      whole-more : length (text ++ block) ≡ 1024 * blocksIn (text ++ block)
+      whole-more = omega (arith, good .whole, one, length-append text block, joins .one-more)
+
+      more-begun : sessionOf (text ++ block) ≡ begunSession (text ++ block)
+      more-begun =
+          let e : eqb (blocksIn (text ++ block)) 0 ≡ false = ne-eqb (blocksIn (text ++ block)) 0 (λ z. omega (arith, z, joins .one-more)) in rw e
+
+      -- ---- block 0
+
+      module _ (none : blocksIn text ≡ 0) where
+        text-fresh : sessionOf text ≡ fresh
+        text-fresh = let e : eqb (blocksIn text) 0 ≡ true = eq-eqb (blocksIn text) 0 none in rw e
+
+        text-lent : gridOf text lent ≡ lent
+        text-lent = let e : eqb (blocksIn text) 0 ≡ true = eq-eqb (blocksIn text) 0 none in rw e
+
+        this-block : blockAt (text ++ block) 0 ≡ block
+        this-block = ap (blockAt (text ++ block)) (sym none) ∙ joins .next
+
+        header-here : headerOf block ≡ headerIn (text ++ block)
+        header-here = ap headerOf (sym this-block)
+
+        begun-is : begun (headerOf block) ≡ sessionOf (text ++ block)
+        begun-is =
+            let more = text ++ block in
+            let n : blocksIn more ≡ 1 = omega (arith, joins .one-more, none) in
+            let closed : closedIn more ≡ 0
+            = closed-is more (profilesIn more) 0 (omega arith) (omega (arith, n)) (λ lt. omega (arith, n, next-start more 0)) (omega (arith, n)) in
+            let empty : allHeights more ≡ []
+            = joined-empty (heightsIn more) 0 (profilesIn more)
+            (λ j p. rw (none-yet more j (omega (arith, n, start-from more j)))) in
+            let col : ltb 1 (blocksIn more) ≡ false = le-ltb 1 (blocksIn more) (omega (arith, n)) in
+            let fin : ltb (endOf more) (blocksIn more) ≡ false
+            = le-ltb (endOf more) (blocksIn more) (omega (arith, n, start-from more (profilesIn more))) in
+            let opn : isOpen more ≡ false
+            = by-test (ltb 0 (profilesIn more))
+            (λ t. let b : ltb 1 (blocksIn more) ≡ false = col in rw (closed, t, b))
+            (λ t. rw (closed, t)) in
+            let c : 0 ≡ begunSession more .column = rw col in
+            let f : 0 ≡ begunSession more .finished = rw fin in
+            let p : noProfile ≡ begunSession more .profile = rw opn in
+            (λ i.
+            record {
+              header = header-here i;
+              taken = sym n i;
+              closed = sym closed i;
+              posts = length (sym empty i);
+              filled = filledIn (sym empty i);
+              low = leastOf (filledOnly (sym empty i));
+              high = greatestOf (filledOnly (sym empty i));
+              column = c i;
+              finished = f i;
+              profile = p i;
+            })
+            ∙ sym more-begun
+
+        begin-verdict : (cells : ℕ)
+            → beginning cells (recordA block)
+            ≡ byBreach (inBlock 0 (faultOf block)) (cond (ltb cells (cellsOf (headerOf block))) (wrong 12 0 0) (begins (headerOf block)))
+        unfolding recordA
+        begin-verdict cells = by-test (eqb (faultOf block .kind) 0) (λ e. rw e) (λ e. rw e)
+
+        begin-fits : Fits text lent block (beginning (length lent) (recordA block))
+            (refusedBy (firstBreach (text ++ block)) (cond (ltb (length lent) (cellsIn (text ++ block))) (Refused 12 0 0) Taken))
+        begin-fits =
+            let more = text ++ block in
+            let same : cellsOf (headerOf block) ≡ cellsIn more = ap cellsOf header-here in
+            let short : ltb (length lent) (cellsOf (headerOf block)) ≡ ltb (length lent) (cellsIn more) = ap (ltb (length lent)) same in
+            same-fits (begin-verdict (length lent)) refl
+            (by-test (eqb (faultOf block .kind) 0)
+            (λ e.
+            let z = eqb-true (faultOf block .kind) 0 e in
+            let kept = first-due-kept text more block (blocksIn text) joins none z in
+            let k : eqb (firstBreach more .kind) 0 ≡ true = eq-eqb (firstBreach more .kind) 0 kept in
+            rw (e, k, short)
+            (pick (ltb (length lent) (cellsIn more)) (λ s. refused 12 0 0)
+            (λ s.
+            record {
+              answer-is = refl;
+              session-is = begun-is;
+              grid-is =
+                  ap₂ (λ (n : ℕ) (g : List ℤ). replicate n void ++ drop n g) same text-lent
+                  ∙ grid-begun text more block (blocksIn text) joins none lent;
+              whole-is = whole-more;
+              kept-is = λ q. kept;
+              room-is = λ q. ltb-false (length lent) (cellsIn more) s;
+            })))
+            (λ e.
+            let bad = eqb-false (faultOf block .kind) 0 e in
+            let b : firstBreach more ≡ inBlock 0 (faultOf block) = first-due-broken text more block (blocksIn text) joins none bad in
+            rw (b, e) (refused (faultOf block .kind) 0 (faultOf block .byte))))
+
+      -- ---- a later block
+
+      module _ (some : 1 ≤ blocksIn text) where
+        text-begun : sessionOf text ≡ begunSession text
+        text-begun =
+            let e : eqb (blocksIn text) 0 ≡ false = ne-eqb (blocksIn text) 0 (λ z. omega (arith, z, some)) in rw e
+
+        same-cells : cellsIn (text ++ block) ≡ cellsIn text
+        same-cells = ap cellsOf (header-same text (text ++ block) block (blocksIn text) joins some)
+
+        taken-as : (at : ℕ) (hs : List ℤ) → firstBreach (text ++ block) .kind ≡ 0 → sets (gridOf text lent) at hs ≡ gridOf (text ++ block) lent
+            → Fits text lent block (fills (begunSession (text ++ block)) at hs) Taken
+        taken-as at hs kept g =
+            record {
+              answer-is = refl;
+              session-is = sym more-begun;
+              grid-is = g;
+              whole-is = whole-more;
+              kept-is = λ q. kept;
+              room-is = λ q. omega (arith, same-cells, good .room some);
+            }
+
+        later-fits : isComplete text ≡ false → Fits text lent block (later (begunSession text) (blocksIn text) block) (refusedBy (firstBreach (text ++ block)) Taken)
+        later-fits i =
+            let k = blocksIn text in
+            let more = text ++ block in
+            let x = joins in
+            by-test (ltb (closedIn text) (profilesIn text))
+            (λ t.
+            let lt = ltb-true (closedIn text) (profilesIn text) t in
+            let c = closedIn text in
+            let here = here-now text more block k x some (good .kept some) lt in
+            let hs = newHeights text more block k x some c here in
+            let at = nextCell (begunSession text) (columnIn more 0) (readSoFar text more c) in
+            same-fits (profile-verdict text more block k x some (good .kept some) c here) refl
+            (by-breach (firstBreach more)
+            (λ kept.
+            let h = header-same text more block k x some in
+            let n : profilesIn more ≡ profilesIn text = ap (λ (a : Header). a .profiles) h in
+            let begun : startOf more c < blocksIn more = omega (arith, same-start text more block k x some c here, here .begins, x .one-more) in
+            let p = placed-at more kept c (omega (arith, n, lt)) begun in
+            let e : at ≡ cellOfPost more c (postsIn text c)
+            = ap₂ (λ (a : ℕ) (r : ℕ). a * r + rowIn more c + postsIn text c) (sym (p .column)) (ap rowsOf (sym h))
+            ∙ add-assoc (columnIn more c * rowsIn more) (rowIn more c) (postsIn text c) in
+            taken-as at hs kept
+            (ap (λ (a : ℕ). sets (gridOf text lent) a hs) e
+            ∙ grid-grows text more block k x some c here kept lent (omega (arith, same-cells, good .room some))))))
+            (λ t.
+            let all = all-now text more block k x some (good .kept some) (λ lt. omega (arith, lt, ltb-false (closedIn text) (profilesIn text) t)) in
+            same-fits (finish-verdict text more block k x some (good .kept some) all i) refl
+            (by-breach (firstBreach more)
+            (λ kept.
+            taken-as 0 [] kept (sym (grid-idle text more block k x some (behind text more block k x some (good .kept some) all) lent)))))
+
+  -- ---- any delivery
+
+  length-kept : Good text lent → length (gridOf text lent) ≡ length lent
+  length-kept good =
+      by-test (eqb (blocksIn text) 0) (λ e. rw e)
+      (λ e. grid-length text lent (good .room (let n = eqb-false (blocksIn text) 0 e in omega (arith, n))))
+
+  taken-is : sessionOf text .taken ≡ blocksIn text
+  taken-is = by-test (eqb (blocksIn text) 0) (λ e. rw e (sym (eqb-true (blocksIn text) 0 e))) (λ e. rw e)
+
+  -- a block of 1,024 bytes, past the first two tests
+  past-two : Good text lent → (number : ℕ) → eqb (length block) 1024 ≡ true
+      → verdictOf (sessionOf text) number block (length lent)
+      ≡ cond (ltb number (blocksIn text)) again
+      (cond (ltb (blocksIn text) number) (wrong 3 number 0)
+      (cond (eqb number 0) (beginning (length lent) (recordA block))
+      (cond (complete (sessionOf text)) (wrong 4 number 0)
+      (cond (ltb (length lent) (cellsOf (sessionOf text .header))) (wrong 12 number 0) (later (sessionOf text) number block)))))
+  unfolding verdictOf
+  past-two good number l =
+      let s = sessionOf text in
+      λ i.
+      cond (not (l i)) (wrong 1 number 0)
+      (cond (not (good .sound-is i)) (wrong 2 number 0)
+      (cond (ltb number (taken-is i)) again
+      (cond (ltb (taken-is i) number) (wrong 3 number 0)
+      (cond (eqb number 0) (beginning (length lent) (recordA block))
+      (cond (complete s) (wrong 4 number 0)
+      (cond (ltb (length lent) (cellsOf (s .header))) (wrong 12 number 0) (later s number block)))))))
+
+  wrong-length : (number : ℕ) → eqb (length block) 1024 ≡ false
+      → verdictOf (sessionOf text) number block (length lent) ≡ wrong 1 number 0
+  unfolding verdictOf
+  wrong-length number l = rw l
+
+  next-fits : (good : Good text lent) (one : length block ≡ 1024) (some : 1 ≤ blocksIn text) (number : ℕ) → number ≡ blocksIn text
+      → Fits text lent block
+      (cond (complete (sessionOf text)) (wrong 4 number 0)
+      (cond (ltb (length lent) (cellsOf (sessionOf text .header))) (wrong 12 number 0) (later (sessionOf text) number block)))
+      (cond (isComplete text) (Refused 4 number 0)
+      (cond (ltb (length lent) (cellsIn (text ++ block))) (Refused 12 number 0) (refusedBy (firstBreach (text ++ block)) Taken)))
+  next-fits good one some number e =
+      let more = text ++ block in
+      let begun = text-begun good one some in
+      let c : complete (sessionOf text) ≡ isComplete text
+      = ap complete begun ∙ complete-is text more block (blocksIn text) (joins good one) some (good .kept some) in
+      let s : cellsOf (sessionOf text .header) ≡ cellsIn more
+      = ap (λ (w : Session). cellsOf (w .header)) begun ∙ sym (same-cells good one some) in
+      same-fits
+      (ap₂
+      (λ (a : Bool) (n : ℕ).
+      cond a (wrong 4 number 0) (cond (ltb (length lent) n) (wrong 12 number 0) (later (sessionOf text) number block))) c s)
+      refl
+      (pick (isComplete text) (λ q. refused good 4 number 0)
+      (λ q.
+      pick (ltb (length lent) (cellsIn more)) (λ r. refused good 12 number 0)
+      (λ r. same-fits (ap₂ (λ (w : Session) (m : ℕ). later w m block) begun e) refl (later-fits good one some q))))
+
+  verdict-fits : Good text lent → (number : ℕ)
+      → Fits text lent block (verdictOf (sessionOf text) number block (length lent)) (answerTo text number block (length lent))
+  verdict-fits good number =
+      let broken = firstBreach (text ++ block) in
+      let short = ltb (length lent) (cellsIn (text ++ block)) in
+      let rest = cond (ltb number (blocksIn text)) Held
+      (cond (ltb (blocksIn text) number) (Refused 3 number 0)
+      (cond (eqb number 0) (refusedBy broken (cond short (Refused 12 0 0) Taken))
+      (cond (isComplete text) (Refused 4 number 0) (cond short (Refused 12 number 0) (refusedBy broken Taken))))) in
+      by-test (eqb (length block) 1024)
+      (λ l.
+      let one = eqb-true (length block) 1024 l in
+      same-fits (past-two good number l) (λ i. cond (not (l i)) (Refused 1 number 0) rest)
+      (pick (ltb number (blocksIn text)) (λ a. held good)
+      (λ a.
+      pick (ltb (blocksIn text) number) (λ b. refused good 3 number 0)
+      (λ b.
+      let e : number ≡ blocksIn text = omega (arith, ltb-false number (blocksIn text) a, ltb-false (blocksIn text) number b) in
+      pick (eqb number 0) (λ z. begin-fits good one (sym e ∙ eqb-true number 0 z))
+      (λ z. let n = eqb-false number 0 z in next-fits good one (omega (arith, n, e)) number e)))))
+      (λ l. same-fits (wrong-length number l) (λ i. cond (not (l i)) (Refused 1 number 0) rest) (refused good 1 number 0))
+
+-- ---- a desk whose session and grid are what a text means
+
+pub record Stands (text : List ℕ) (lent : List ℤ) (k : Desk) : Type 0 where
+  pub good : Good text lent
+  pub session-is : k .session ≡ sessionOf text
+  pub grid-is : k .grid ≡ gridOf text lent
+
+pub stands-first : (lent : List ℤ) → Stands [] lent (atFirst lent)
+unfolding sound
+stands-first lent =
+    record {
+      good = record { whole = refl; kept = λ q. absurd (omega (arith, q)); room = λ q. absurd (omega (arith, q)); sound-is = refl };
+      session-is = refl;
+      grid-is = refl;
+    }
+
+module _ (r : Reader) (keeps : Keeps r) (text : List ℕ) (lent : List ℤ) (k : Desk) (at : Stands text lent k) (d : Delivery) where
+  fit : Fits text lent (d .bytes) (verdictOf (sessionOf text) (d .number) (d .bytes) (length lent)) (answerTo text (d .number) (d .bytes) (length lent))
+  fit = verdict-fits text lent (d .bytes) (at .good) (d .number)
+
+  same-verdict : verdictOf (k .session) (d .number) (d .bytes) (length (k .grid))
+      ≡ verdictOf (sessionOf text) (d .number) (d .bytes) (length lent)
+  same-verdict =
+      ap₂ (λ (s : Session) (n : ℕ). verdictOf s (d .number) (d .bytes) n) (at .session-is)
+      (ap length (at .grid-is) ∙ length-kept text lent (d .bytes) (at .good))
+
+  told : r .deliver (k .session) (d .number) (d .bytes) (k .grid)
+      ≡ answerOf (sessionOf text) (verdictOf (sessionOf text) (d .number) (d .bytes) (length lent))
+  told = keeps .answers (k .session) (d .number) (d .bytes) (k .grid) ∙ ap₂ answerOf (at .session-is) same-verdict
+
+  pub answer-told : answered r k d ≡ answerTo text (d .number) (d .bytes) (length lent)
+  answer-told = ap (λ (w : Delivered). w .answer) told ∙ fit .answer-is
+
+  session-told : after r k d .session ≡ sessionOf (text ++ bytesIf (answered r k d) (d .bytes))
+  session-told =
+      ap (λ (w : Delivered). w .session) told ∙ fit .session-is
+      ∙ ap (λ (a : Answer). sessionOf (text ++ bytesIf a (d .bytes))) (sym answer-told)
+
+  pub stands-next : Stands (text ++ bytesIf (answered r k d) (d .bytes)) lent (after r k d)
+  stands-next =
+      let e : answerTo text (d .number) (d .bytes) (length lent) ≡ answered r k d = sym answer-told in
+      record {
+        good =
+            record {
+              whole = rw (← e) (fit .whole-is);
+              kept = rw (← e) (fit .kept-is);
+              room = rw (← e) (fit .room-is);
+              sound-is =
+                  ap sound (sym session-told)
+                  ∙ ap (λ (w : Delivered). sound (w .session)) (keeps .answers (k .session) (d .number) (d .bytes) (k .grid))
+                  ∙ sound-out (k .session) (d .number) (d .bytes) (k .grid) (ap sound (at .session-is) ∙ at .good .sound-is);
+            };
+        session-is = session-told;
+        grid-is =
+            keeps .fills (k .session) (d .number) (d .bytes) (k .grid)
+            ∙ ap₂ cellsBy (at .grid-is) same-verdict
+            ∙ fit .grid-is
+            ∙ ap (λ (a : Answer). gridOf (text ++ bytesIf a (d .bytes)) lent) e;
+      }
+
+-- what is not taken changes nothing, whatever the desk
+pub not-taken-nothing : (r : Reader) → Keeps r → (k : Desk) (d : Delivery) → (answered r k d ≡ Taken → ⊥) → after r k d ≡ k
+not-taken-nothing r keeps k d not =
+    let v = verdictOf (k .session) (d .number) (d .bytes) (length (k .grid)) in
+    let a = keeps .answers (k .session) (d .number) (d .bytes) (k .grid) in
+    (λ i. record { session = a i .session; grid = keeps .fills (k .session) (d .number) (d .bytes) (k .grid) i })
+    ∙ go v refl (λ e. not (ap (λ (w : Delivered). w .answer) a ∙ e))
+  where
+    go : (v : Verdict) → verdictOf (k .session) (d .number) (d .bytes) (length (k .grid)) ≡ v
+        → (answerOf (k .session) v .answer ≡ Taken → ⊥)
+        → record { session = answerOf (k .session) v .session; grid = cellsBy (k .grid) v } ≡ k
+    go again e n = refl
+    go (wrong kind block byte) e n = refl
+    go (begins h) e n = absurd (n refl)
+    go (fills s at hs) e n = absurd (n refl)

@@ -1,0 +1,4 @@
+pub mod Text
+pub mod Rules
+pub mod Means
+pub mod Deliveries

@@ -1,0 +1,142 @@
+-- The joined text of a sheet: blocks, profiles, posts, and the cell that each post stands for. Nothing here knows a session or a step.
+use mathlib.Core.Bool.{Bool, true, false, cond}
+use mathlib.Core.List.{List, [], _∷_, _++_, map}
+use Prim.Native.Nat.{ℕ, zero, suc, _+_, _*_, _-_, _/_, _%_, min}
+use lib.IntN.{ℤ, pos}
+use lib.Dec.{leb, ltb}
+use lib.ListN.{length, take, drop}
+use Rattle.laws.specs.Sign.{_and_}
+use Rattle.number.specs.Integer.{integer}
+use Rattle.sheet.specs.Lattice.{latticeOf, placeOf}
+use Rattle.sheet.specs.RecordA.{headerOf, columnsOf, rowsOf, west, east, south, north, stretch}
+use Rattle.sheet.specs.declared.lattice.Place.{Place}
+use Rattle.sheet.specs.declared.lattice.Place.the-variants.{On, Off}
+use Rattle.sheet.specs.declared.record_a.Header.{Header}
+use Rattle.profile.specs.RecordB.{headOf}
+use Rattle.profile.specs.declared.record_b.Head.{Head}
+use Rattle.load.specs.Posts.{void, height, blocksFor}
+
+-- the n numbers from a on, and those below n
+abbrev pub from : ℕ → ℕ → List ℕ
+from a zero = []
+from a (suc n) = a ∷ from (suc a) n
+
+abbrev pub below : ℕ → List ℕ
+below n = from 0 n
+
+abbrev pub joined : {A : Type 0} → List (List A) → List A
+joined [] = []
+joined (xs ∷ xss) = xs ++ joined xss
+
+-- ---- blocks of 1,024 bytes, counted from 0
+
+abbrev pub blockAt : List ℕ → ℕ → List ℕ
+blockAt text b = take 1024 (drop (1024 * b) text)
+
+abbrev pub blocksIn : List ℕ → ℕ
+blocksIn text = length text / 1024
+
+-- ---- "Record A (block 0)"
+
+abbrev pub headerIn : List ℕ → Header
+headerIn text = headerOf (blockAt text 0)
+
+-- n, the profiles of the sheet
+abbrev pub profilesIn : List ℕ → ℕ
+profilesIn text = headerIn text .profiles
+
+-- the z spacing in hundredths
+abbrev pub zIn : List ℕ → ℕ
+zIn text = headerIn text .zstep / 10000000
+
+abbrev pub columnsIn : List ℕ → ℕ
+columnsIn text = columnsOf (headerIn text)
+
+abbrev pub rowsIn : List ℕ → ℕ
+rowsIn text = rowsOf (headerIn text)
+
+abbrev pub cellsIn : List ℕ → ℕ
+cellsIn text = columnsIn text * rowsIn text
+
+-- ---- "Record B (one profile)"; profiles are counted from 0 here, and from 1 in their own field
+
+-- a profile's first block: block 1, or the one behind the profile before it, whole
+abbrev pub startOf : List ℕ → ℕ → ℕ
+startOf text zero = 1
+startOf text (suc j) = startOf text j + blocksFor (headOf (blockAt text (startOf text j)) .posts)
+
+abbrev pub headIn : List ℕ → ℕ → Head
+headIn text j = headOf (blockAt text (startOf text j))
+
+-- how many posts so many blocks of a profile have room for: "then up to 146 six-byte posts", "up to 170" in each further one
+abbrev pub roomIn : ℕ → ℕ
+roomIn zero = 0
+roomIn (suc blocks) = 146 + 170 * blocks
+
+-- how many posts of a profile the text has
+abbrev pub postsIn : List ℕ → ℕ → ℕ
+postsIn text j = min (headIn text j .posts) (roomIn (blocksIn text - startOf text j))
+
+-- where post i of a profile stands: its block, counted from the profile's first, and its byte there, counted from 1
+abbrev pub postBlock : ℕ → ℕ
+postBlock i = cond (ltb i 146) 0 (1 + (i - 146) / 170)
+
+abbrev pub postByte : ℕ → ℕ
+postByte i = cond (ltb i 146) (145 + 6 * i) (1 + 6 * ((i - 146) % 170))
+
+abbrev pub postIn : List ℕ → ℕ → ℕ → ℤ
+postIn text j i = integer (stretch (postByte i) 6 (blockAt text (startOf text j + postBlock i))) .value
+
+-- "judged before any scaling. Any other post p fills its cell with p × z spacing + datum, in hundredths"
+abbrev pub heightIn : List ℕ → ℕ → ℕ → ℤ
+heightIn text j i = height (zIn text) (headIn text j .datum) (postIn text j i)
+
+-- the heights of the posts of a profile, from south to north, and those of all posts of the text, profile by profile
+abbrev pub heightsIn : List ℕ → ℕ → List ℤ
+heightsIn text j = map (heightIn text j) (below (postsIn text j))
+
+abbrev pub allHeights : List ℕ → List ℤ
+allHeights text = joined (map (heightsIn text) (below (profilesIn text)))
+
+-- ---- the lattice
+
+abbrev pub numberOn : Place → ℕ
+numberOn (On i) = i
+numberOn Off = 0
+
+abbrev pub columnPlaceIn : List ℕ → ℕ → Place
+columnPlaceIn text j =
+    let h = headerIn text in placeOf (latticeOf (west h) (east h) (h .xstep)) (h .xstep) (headIn text j .x)
+
+abbrev pub rowPlaceIn : List ℕ → ℕ → Place
+rowPlaceIn text j =
+    let h = headerIn text in placeOf (latticeOf (south h) (north h) (h .ystep)) (h .ystep) (headIn text j .y)
+
+abbrev pub columnIn : List ℕ → ℕ → ℕ
+columnIn text j = numberOn (columnPlaceIn text j)
+
+abbrev pub rowIn : List ℕ → ℕ → ℕ
+rowIn text j = numberOn (rowPlaceIn text j)
+
+-- "Cell = column × rows + row": the cell that post i of a profile stands for
+abbrev pub cellOfPost : List ℕ → ℕ → ℕ → ℕ
+cellOfPost text j i = columnIn text j * rowsIn text + (rowIn text j + i)
+
+-- ---- a cell's value, looked up from the post that stands for it
+
+-- the profile at a column: profile 1 at its own, and each next one a spacing further east
+abbrev pub profileAt : List ℕ → ℕ → ℕ
+profileAt text column = column - columnIn text 0
+
+abbrev pub postStands : List ℕ → ℕ → ℕ → Bool
+postStands text column row =
+    leb (columnIn text 0) column and ltb (profileAt text column) (profilesIn text)
+    and leb (rowIn text (profileAt text column)) row
+    and ltb (row - rowIn text (profileAt text column)) (postsIn text (profileAt text column))
+
+abbrev pub valueAt : List ℕ → ℕ → ℕ → ℤ
+valueAt text column row =
+    cond (postStands text column row) (heightIn text (profileAt text column) (row - rowIn text (profileAt text column))) void
+
+abbrev pub cellIn : List ℕ → ℕ → ℤ
+cellIn text c = valueAt text (c / rowsIn text) (c % rowsIn text)

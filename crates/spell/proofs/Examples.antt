@@ -1,0 +1,31 @@
+-- Written fields of a sheet, by computation.
+use mathlib.Core.Path.{_≡_, refl}
+use Prim.Native.Nat.{_*_, _^_}
+use lib.IntN.{pos, negℤ}
+use Rattle.laws.specs.Digits.{places}
+use Rattle.laws.specs.Texts.{bytes}
+use Rattle.spell.specs.Spell.{spell, count, integerText, realText}
+
+written-integer : integerText 6 (negℤ (pos 7)) ≡ bytes "    -7"
+unfolding integerText spell count places
+written-integer = refl
+
+written-zero : integerText 6 (pos 0) ≡ bytes "     0"
+unfolding integerText spell count places
+written-zero = refl
+
+written-real : realText 15 68 24 (pos (428400 * 10 ^ 9)) ≡ bytes "   0.428400000000000D+06"
+unfolding realText spell count places
+written-real = refl
+
+written-billionth : realText 15 68 24 (negℤ (pos 1)) ≡ bytes "  -0.100000000000000D-08"
+unfolding realText spell count places
+written-billionth = refl
+
+written-real-zero : realText 15 68 24 (pos 0) ≡ bytes "   0.000000000000000D+00"
+unfolding realText spell count places
+written-real-zero = refl
+
+written-spacing : realText 6 69 12 (pos (30 * 10 ^ 9)) ≡ bytes "0.300000E+02"
+unfolding realText spell count places
+written-spacing = refl

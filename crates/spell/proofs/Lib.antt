@@ -1,0 +1,10 @@
+pub mod Counts
+pub mod Leading
+pub mod FirstDigits
+pub mod Pieces
+pub mod Texts
+pub mod Spelled
+pub mod Exponents
+pub mod Fits
+pub mod ReadBack
+pub mod Examples

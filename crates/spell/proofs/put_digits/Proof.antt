@@ -1,0 +1,81 @@
+-- Digits put from the left: what stands and what is still to come make the whole; the law of one digit carries a turn.
+use Prim.Native.Nat.{_/_, _<_}
+use mathlib.Core.Path.{refl}
+use native.Mathlib.Omega.{arith}
+use Rattle.laws.proofs.Tens.{ten-pos}
+use Rattle.spell.proofs.Pieces.{Spelling, digit-small, turn, done}
+use Rattle.spell.proofs.put_digits.Statement.{statement}
+use Rattle.spell.proofs.put_digits.Tie as tie
+
+abbrev Inv-loop : tie.InvT-loop
+Inv-loop text₀ at k n end₀ left₀ rest₀ text end left rest =
+    Spelling text₀ at k n text end left rest
+
+abbrev μ-loop : tie.MeasureT-loop
+μ-loop text₀ at k n end₀ left₀ rest₀ text end left rest = left
+
+loop-holds : tie.Need-loop-holds Inv-loop μ-loop
+loop-holds c = record { span = refl; few = omega arith; below = c .before .pre .1 .1; kept = refl; whole = refl }
+
+sub-left : tie.Need-sub-left Inv-loop μ-loop
+sub-left c = omega arith
+
+ten-to-requires : tie.Need-ten-to-requires Inv-loop μ-loop
+ten-to-requires c κs = omega arith
+
+small : (c : tie.After-ten-to Inv-loop μ-loop) → c .before .before .loop .rest / c .ten-to .result < 10
+small c =
+    let l = c .before .before .loop in
+    rw (c .ten-to .ensures) (digit-small (l .left) (l .rest) (omega arith) (l .inv .below))
+
+div-text : tie.Need-div-text Inv-loop μ-loop
+div-text c = rw (c .ten-to .ensures) (ten-pos _)
+
+cast-text : tie.Need-cast-text Inv-loop μ-loop
+cast-text c = record { fits = omega (arith, small c) }
+
+add-text : tie.Need-add-text Inv-loop μ-loop
+add-text c = record { fits = omega (arith, small c) }
+
+slice-write-text : tie.Need-slice-write-text Inv-loop μ-loop
+slice-write-text c = omega arith
+
+rem-rest : tie.Need-rem-rest Inv-loop μ-loop
+rem-rest c = rw (c .ten-to .ensures) (ten-pos _)
+
+add-end : tie.Need-add-end Inv-loop μ-loop
+add-end c = omega arith
+
+loop-less : tie.Need-loop-less Inv-loop μ-loop
+loop-less c = omega arith
+
+loop-again : tie.Need-loop-again Inv-loop μ-loop
+loop-again c =
+    let l = c .before .before .loop in
+    turn (l .inv) (omega arith) (c .ten-to .ensures) (omega arith)
+
+same-length : tie.Need-same-length Inv-loop μ-loop
+same-length c = c .before .loop .inv .kept
+
+returns : tie.Need-returns Inv-loop μ-loop
+returns c = done (c .before .loop .inv) (omega arith)
+
+pub put-digits-spec : {M : Type 1} → statement M
+put-digits-spec =
+    tie.close
+    (tie.spec
+    Inv-loop
+    μ-loop
+    loop-holds
+    sub-left
+    ten-to-requires
+    div-text
+    cast-text
+    add-text
+    slice-write-text
+    rem-rest
+    add-end
+    loop-less
+    loop-again
+    same-length
+    returns)

@@ -1,0 +1,69 @@
+-- Document 01, "Writing": the texts of an integer and of a real in their fields.
+use mathlib.Core.Bool.{Bool, cond}
+use mathlib.Core.List.{List, [], _∷_, _++_}
+use Prim.Native.Nat.{ℕ, zero, suc, _+_, _*_, _-_, _/_, _%_, _^_}
+use lib.Dec.{leb, ltb, eqb}
+use lib.IntN.{ℤ, pos, natAbs}
+use lib.ListN.{length, replicate}
+use lib.Signed.{ltZ}
+use Rattle.laws.specs.Sign.{_and_}
+use Rattle.laws.specs.Digits.{places, short}
+
+-- k decimal digits of n, from the left
+unfoldable pub spell : ℕ → ℕ → List ℕ
+spell zero n = []
+spell (suc k) n = (48 + n / 10 ^ k) ∷ spell k (n % 10 ^ k)
+
+-- "right-justified .. blanks before"
+abbrev pub justified : ℕ → List ℕ → List ℕ
+justified width text = replicate (width - length text) 32 ++ text
+
+-- ".. minus if negative"
+abbrev pub minus : ℤ → List ℕ
+minus z = cond (ltZ z (pos 0)) (45 ∷ []) []
+
+-- how many digits n has, at most k; zero, which has none, is given `none` of them
+unfoldable pub count : ℕ → ℕ → ℕ → ℕ
+count none k n = cond (eqb n 0) none (places k n)
+
+-- "no leading zero": the digits that the number has, and for zero the single digit 0. No i64 has more than 19.
+abbrev pub wholeDigits : ℕ → ℕ
+wholeDigits n = count 1 19 n
+
+abbrev pub whole : ℤ → List ℕ
+whole z = minus z ++ spell (wholeDigits (natAbs z)) (natAbs z)
+
+-- "Integers: right-justified .."
+unfoldable pub integerText : ℕ → ℤ → List ℕ
+integerText width z = justified width (whole z)
+
+-- its minus and digits are not longer than the field
+unfoldable pub integerFits : ℕ → ℤ → Bool
+integerFits width z = leb (length (whole z)) width
+
+-- a size of n billionths is 0.ddd × 10 ^ (its digits - 9): zero is given 9 digits, so that its power is +00
+abbrev pub sizeDigits : ℕ → ℕ
+sizeDigits n = count 9 18 n
+
+-- "15 digits (6 in the spacings), the first not 0": the first p of n's c digits, or all with zeros after them
+abbrev pub leading : ℕ → ℕ → ℕ → ℕ
+leading p c n = n * 10 ^ (p - c) / 10 ^ (c - p)
+
+-- "then D (E in the spacings), sign, two digits"
+abbrev pub powerText : ℕ → ℕ → List ℕ
+powerText letter c = letter ∷ cond (ltb c 9) (45 ∷ spell 2 (9 - c)) (43 ∷ spell 2 (c - 9))
+
+-- "optional minus, "0.", 15 digits .."
+abbrev pub decimal : ℕ → ℕ → ℤ → List ℕ
+decimal digits letter z =
+    minus z
+    ++ (48 ∷ 46 ∷ (spell digits (leading digits (sizeDigits (natAbs z)) (natAbs z)) ++ powerText letter (sizeDigits (natAbs z))))
+
+-- "Reals: right-justified .."
+unfoldable pub realText : ℕ → ℕ → ℕ → ℤ → List ℕ
+realText digits letter width z = justified width (decimal digits letter z)
+
+-- a magnitude below 10 ^ 9, at most so many significant digits, and a minus, "0.", the digits and the power not longer than the field
+unfoldable pub realFits : ℕ → ℕ → ℤ → Bool
+realFits digits width z =
+    ltb (natAbs z) (10 ^ 18) and short 18 digits (natAbs z) and leb (length (minus z) + (digits + 6)) width
