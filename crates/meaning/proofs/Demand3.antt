@@ -4,7 +4,7 @@ use mathlib.Core.List.{List, [], _∷_, _++_}
 use mathlib.Core.Logic.{_↔_}
 use mathlib.Core.Path.{_≡_, refl, sym, _∙_, ap, ap₂}
 use Prim.Native.Nat.{ℕ, _≤_, _<_}
-use mathlib.Core.Bool.{false}
+use mathlib.Core.Bool.{true, false}
 use native.Mathlib.Omega.{arith}
 use borrow.Author.Tests.{ne-eqb}
 use lib.Dec.{eqb}
@@ -13,6 +13,7 @@ use lib.ListN.{length, take, getD}
 use Rattle.laws.proofs.Answers.{one-answer}
 use Rattle.session.specs.declared.Session.{Session}
 use Rattle.load.specs.Posts.{void, filledIn}
+use Rattle.load.specs.Deliver.{deliverOf, cellsAfter}
 use Rattle.load.specs.declared.Answer.{Answer}
 use Rattle.load.specs.declared.Answer.the-variants.{Taken, Held, Refused}
 use Rattle.load.specs.declared.Delivered.{Delivered}
@@ -35,8 +36,12 @@ use Rattle.meaning.specs.Deliveries.{
   takenText,
   twice,
 }
+use Rattle.meaning.specs.PaperSheet.{paperLent, paperSheet, paperDesk, allAnswered}
 use Rattle.meaning.proofs.EachPost as Cells
 use Rattle.meaning.proofs.OneDelivery.{Stands, stands-first, answer-told, not-taken-nothing as nothing-changed}
+use Rattle.meaning.proofs.ShutOut as Shut
+use Rattle.meaning.proofs.ShutOut.{isRefused}
+use Rattle.meaning.proofs.Witness as Witness
 use Rattle.meaning.proofs.Runs.{stands-after, taken-due, due-taken, late-not-taken, next-answer, twice-once, disturbed-same}
 
 begun-means : (text : List ℕ) → 1 ≤ blocksIn text → sessionOf text ≡ begunSession text
@@ -159,10 +164,55 @@ module _ (r : Reader) (keeps : Keeps r) (lent : List ℤ) (ds : List Delivery) w
       → answered r desk d ≡ refusedBy (firstBreach (text ++ d .bytes)) Taken
   first-fault-said d one next room = answered-as-told d ∙ next-answer text lent (stands .good) d one next room
 
--- ---- 6. no second answer
+-- ---- 5. shut out: readers that document 01 names, by the paper's own sheet, computed
+
+module _ (r : Reader) (keeps : Keeps r) where
+  -- the paper's three blocks are taken, in any reader's hands
+  pub paper-taken : allAnswered r (atFirst paperLent) paperSheet ≡ Taken ∷ (Taken ∷ (Taken ∷ []))
+  paper-taken = Witness.paper-answers r keeps
+
+  -- and leave the paper's session and cells
+  pub paper-desk : afterAll r (atFirst paperLent) paperSheet ≡ paperDesk
+  paper-desk = Witness.paper-desk r keeps
+
+  -- none refuses everything
+  pub not-all-refused : ((s : Session) (n : ℕ) (b : List ℕ) (g : List ℤ) → isRefused (r .deliver s n b g .answer) ≡ true) → ⊥
+  not-all-refused = Shut.not-all-refused r keeps
+
+  -- none answers held to everything
+  pub not-all-held : ((s : Session) (n : ℕ) (b : List ℕ) (g : List ℤ) → r .deliver s n b g .answer ≡ Held) → ⊥
+  not-all-held = Shut.not-all-held r keeps
+
+  -- none takes blocks and places nothing
+  pub places-what-it-takes : ((s : Session) (n : ℕ) (b : List ℕ) (g : List ℤ) → 1 ≤ n → r .deliver s n b g .answer ≡ Taken → r .cells s n b g ≡ g) → ⊥
+  places-what-it-takes = Shut.places-what-it-takes r keeps
+
+  -- none works on the first block and idles afterwards
+  pub works-after-first : ((s : Session) (n : ℕ) (b : List ℕ) (g : List ℤ) → 1 ≤ n → (r .deliver s n b g .session ≡ s) × (r .cells s n b g ≡ g)) → ⊥
+  works-after-first = Shut.works-after-first r keeps
+
+  -- none invents counts: the paper's sheet has 5 posts, 4 filled, 3 blocks (for every list of deliveries: `counts-are`)
+  pub no-other-posts : (posts : ℕ) → afterAll r (atFirst paperLent) paperSheet .session .posts ≡ posts → posts ≡ 5
+  no-other-posts = Shut.no-other-posts r keeps
+
+  pub no-other-filled : (filled : ℕ) → afterAll r (atFirst paperLent) paperSheet .session .filled ≡ filled → filled ≡ 4
+  no-other-filled = Shut.no-other-filled r keeps
+
+  pub no-other-taken : (taken : ℕ) → afterAll r (atFirst paperLent) paperSheet .session .taken ≡ taken → taken ≡ 3
+  no-other-taken = Shut.no-other-taken r keeps
+
+-- ---- 6. no second answer (for the other public functions: paper, proof NoSecondAnswer)
 
 -- two readers that keep the promise answer alike and leave the same cells, whatever they are given
 pub one-reader : (r r′ : Reader) → Keeps r → Keeps r′ → (s : Session) (number : ℕ) (block : List ℕ) (grid : List ℤ)
     → (r .deliver s number block grid ≡ r′ .deliver s number block grid) × (r .cells s number block grid ≡ r′ .cells s number block grid)
 one-reader r r′ k k′ s number block grid =
     (one-answer (k .answers s number block grid) (k′ .answers s number block grid), one-answer (k .fills s number block grid) (k′ .fills s number block grid))
+
+-- `load::deliver` is such a reader: its promise is these two equations for all it can be given
+pub ours : Reader
+ours = record { deliver = deliverOf; cells = cellsAfter }
+
+pub ours-keeps : Keeps ours
+unfolding ours
+ours-keeps = record { answers = λ s number block grid. refl; fills = λ s number block grid. refl }

@@ -12,4 +12,6 @@ pub mod RulesGrow
 pub mod LaterVerdict
 pub mod OneDelivery
 pub mod Runs
+pub mod Witness
+pub mod ShutOut
 pub mod Demand3

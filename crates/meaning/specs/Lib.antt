@@ -2,3 +2,4 @@ pub mod Text
 pub mod Rules
 pub mod Means
 pub mod Deliveries
+pub mod PaperSheet

@@ -1,0 +1,166 @@
+-- No second answer: for every public function, two answers that meet its promise are one; and so are two states of what it was lent.
+-- One law, cited for each.
+use mathlib.Core.Bool.{Bool, cond}
+use mathlib.Core.List.{List}
+use mathlib.Core.Path.{_≡_}
+use Prim.Native.Nat.{ℕ}
+use lib.IntN.{ℤ, natAbs}
+use lib.ListN.{length, take}
+use Rattle.laws.proofs.Answers.{one-answer}
+use Rattle.number.specs.declared.Reading.{Reading}
+use Rattle.number.specs.Integer.{integer}
+use Rattle.number.specs.Real.{real}
+use Rattle.label.specs.Label.{originOf, nameLength}
+use Rattle.spell.specs.Spell.{integerText, integerFits, realText, realFits}
+use Rattle.sheet.specs.Lattice.{latticeOf, placeOf, notNegative}
+use Rattle.sheet.specs.RecordA.{
+  recordA,
+  limits,
+  zoneLimits,
+  groundLimits,
+  heightLimits,
+  inRange,
+  ranged,
+  lesser,
+  greater,
+  west,
+  east,
+  south,
+  north,
+  wholeFault,
+  checkedKind,
+  checkedByte,
+}
+use Rattle.sheet.specs.declared.lattice.Lattice.{Lattice}
+use Rattle.sheet.specs.declared.lattice.Place.{Place}
+use Rattle.sheet.specs.declared.record_a.Checked.{Checked}
+use Rattle.sheet.specs.declared.record_a.Fault.{Fault}
+use Rattle.sheet.specs.declared.record_a.Header.{Header}
+use Rattle.sheet.specs.declared.record_a.Limits.{Limits}
+use Rattle.profile.specs.RecordB.{recordB}
+use Rattle.profile.specs.RecordC.{recordC}
+use Rattle.profile.specs.declared.record_b.Headed.{Headed}
+use Rattle.session.specs.Session.{fresh, sound}
+use Rattle.session.specs.declared.Session.{Session}
+use Rattle.load.specs.Deliver.{deliverOf, cellsAfter}
+use Rattle.load.specs.declared.Delivered.{Delivered}
+
+pub read-integer : (field : List ℕ) {a b : Reading} → a ≡ integer field → b ≡ integer field → a ≡ b
+read-integer field = one-answer
+
+pub read-real : (field : List ℕ) {a b : Reading} → a ≡ real field → b ≡ real field → a ≡ b
+read-real field = one-answer
+
+pub write-integer : (value : ℤ) (field : List ℕ) {a b : Bool} → a ≡ integerFits (length field) value → b ≡ integerFits (length field) value → a ≡ b
+write-integer value field = one-answer
+
+pub write-integer-field : (value : ℤ) (field : List ℕ) {a b : List ℕ} → a ≡ cond (integerFits (length field) value) (integerText (length field) value) field → b ≡ cond (integerFits (length field) value) (integerText (length field) value) field → a ≡ b
+write-integer-field value field = one-answer
+
+pub write-real : (value : ℤ) (field : List ℕ) {a b : Bool} → a ≡ realFits 15 (length field) value → b ≡ realFits 15 (length field) value → a ≡ b
+write-real value field = one-answer
+
+pub write-real-field : (value : ℤ) (field : List ℕ) {a b : List ℕ} → a ≡ cond (realFits 15 (length field) value) (realText 15 68 (length field) value) field → b ≡ cond (realFits 15 (length field) value) (realText 15 68 (length field) value) field → a ≡ b
+write-real-field value field = one-answer
+
+pub write-spacing : (value : ℤ) (field : List ℕ) {a b : Bool} → a ≡ realFits 6 (length field) value → b ≡ realFits 6 (length field) value → a ≡ b
+write-spacing value field = one-answer
+
+pub write-spacing-field : (value : ℤ) (field : List ℕ) {a b : List ℕ} → a ≡ cond (realFits 6 (length field) value) (realText 6 69 (length field) value) field → b ≡ cond (realFits 6 (length field) value) (realText 6 69 (length field) value) field → a ≡ b
+write-spacing-field value field = one-answer
+
+pub origin : (block : List ℕ) {a b : ℕ} → a ≡ originOf block → b ≡ originOf block → a ≡ b
+origin block = one-answer
+
+pub name : (block : List ℕ) {a b : List ℕ} → a ≡ take (nameLength block) block → b ≡ take (nameLength block) block → a ≡ b
+name block = one-answer
+
+pub size-of : (z : ℤ) {a b : ℕ} → a ≡ natAbs z → b ≡ natAbs z → a ≡ b
+size-of z = one-answer
+
+pub span : (least greatest : ℤ) (spacing : ℕ) {a b : Lattice} → a ≡ latticeOf least greatest spacing → b ≡ latticeOf least greatest spacing → a ≡ b
+span least greatest spacing = one-answer
+
+pub locate : (l : Lattice) (spacing : ℕ) (z : ℤ) {a b : Place} → a ≡ placeOf l spacing z → b ≡ placeOf l spacing z → a ≡ b
+locate l spacing z = one-answer
+
+pub limits-of : (least greatest step kind : ℕ) {a b : Limits} → a ≡ limits least greatest step kind → b ≡ limits least greatest step kind → a ≡ b
+limits-of least greatest step kind = one-answer
+
+pub zone-limits : (system : ℕ) {a b : Limits} → a ≡ zoneLimits system → b ≡ zoneLimits system → a ≡ b
+zone-limits system = one-answer
+
+pub ground-limits : (system : ℕ) {a b : Limits} → a ≡ groundLimits system → b ≡ groundLimits system → a ≡ b
+ground-limits system = one-answer
+
+pub height-limits : (vertical : ℕ) {a b : Limits} → a ≡ heightLimits vertical → b ≡ heightLimits vertical → a ≡ b
+height-limits vertical = one-answer
+
+pub not-negative : (z : ℤ) {a b : ℕ} → a ≡ notNegative z → b ≡ notNegative z → a ≡ b
+not-negative z = one-answer
+
+pub in-range : (l : Limits) (v : ℕ) {a b : Bool} → a ≡ inRange l v → b ≡ inRange l v → a ≡ b
+in-range l v = one-answer
+
+pub read-ranged : (l : Limits) (r : Reading) {a b : Reading} → a ≡ ranged l r → b ≡ ranged l r → a ≡ b
+read-ranged l r = one-answer
+
+pub lesser-of : (x y : ℤ) {a b : ℤ} → a ≡ lesser x y → b ≡ lesser x y → a ≡ b
+lesser-of x y = one-answer
+
+pub greater-of : (x y : ℤ) {a b : ℤ} → a ≡ greater x y → b ≡ greater x y → a ≡ b
+greater-of x y = one-answer
+
+pub column-lattice : (h : Header) {a b : Lattice} → a ≡ latticeOf (west h) (east h) (h .xstep) → b ≡ latticeOf (west h) (east h) (h .xstep) → a ≡ b
+column-lattice h = one-answer
+
+pub row-lattice : (h : Header) {a b : Lattice} → a ≡ latticeOf (south h) (north h) (h .ystep) → b ≡ latticeOf (south h) (north h) (h .ystep) → a ≡ b
+row-lattice h = one-answer
+
+pub judge-whole : (h : Header) {a b : Fault} → a ≡ wholeFault h → b ≡ wholeFault h → a ≡ b
+judge-whole h = one-answer
+
+pub check-record-a : (block : List ℕ) {a b : Checked} → a ≡ recordA block → b ≡ recordA block → a ≡ b
+check-record-a block = one-answer
+
+pub read-head : (number : ℕ) (block : List ℕ) {a b : Headed} → a ≡ recordB number block → b ≡ recordB number block → a ≡ b
+read-head number block = one-answer
+
+pub check-record-c : (block : List ℕ) {a b : Fault} → a ≡ recordC block → b ≡ recordC block → a ≡ b
+check-record-c block = one-answer
+
+pub new : {a b : Session} → a ≡ fresh → b ≡ fresh → a ≡ b
+new = one-answer
+
+pub is-sound : (s : Session) {a b : Bool} → a ≡ sound s → b ≡ sound s → a ≡ b
+is-sound s = one-answer
+
+pub deliver : (s : Session) (number : ℕ) (block : List ℕ) (grid : List ℤ) {a b : Delivered} → a ≡ deliverOf s number block grid → b ≡ deliverOf s number block grid → a ≡ b
+deliver s number block grid = one-answer
+
+pub deliver-grid : (s : Session) (number : ℕ) (block : List ℕ) (grid : List ℤ) {a b : List ℤ} → a ≡ cellsAfter s number block grid → b ≡ cellsAfter s number block grid → a ≡ b
+deliver-grid s number block grid = one-answer
+
+pub dem-integer-kind : (field : List ℕ) {a b : ℕ} → a ≡ integer field .kind → b ≡ integer field .kind → a ≡ b
+dem-integer-kind field = one-answer
+
+pub dem-integer-value : (field : List ℕ) {a b : ℤ} → a ≡ integer field .value → b ≡ integer field .value → a ≡ b
+dem-integer-value field = one-answer
+
+pub dem-real-kind : (field : List ℕ) {a b : ℕ} → a ≡ real field .kind → b ≡ real field .kind → a ≡ b
+dem-real-kind field = one-answer
+
+pub dem-real-value : (field : List ℕ) {a b : ℤ} → a ≡ real field .value → b ≡ real field .value → a ≡ b
+dem-real-value field = one-answer
+
+pub dem-record-a-kind : (block : List ℕ) {a b : ℕ} → a ≡ checkedKind (recordA block) → b ≡ checkedKind (recordA block) → a ≡ b
+dem-record-a-kind block = one-answer
+
+pub dem-record-a-byte : (block : List ℕ) {a b : ℕ} → a ≡ checkedByte (recordA block) → b ≡ checkedByte (recordA block) → a ≡ b
+dem-record-a-byte block = one-answer
+
+pub dem-origin : (block : List ℕ) {a b : ℕ} → a ≡ originOf block → b ≡ originOf block → a ≡ b
+dem-origin block = one-answer
+
+pub dem-name-length : (block : List ℕ) {a b : ℕ} → a ≡ nameLength block → b ≡ nameLength block → a ≡ b
+dem-name-length block = one-answer
