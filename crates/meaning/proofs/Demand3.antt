@@ -2,7 +2,7 @@
 -- of deliveries: any numbers, any bytes of any length, session and grid handed back as last returned. Each theorem cites where it is shown.
 use mathlib.Core.List.{List, [], _∷_, _++_}
 use mathlib.Core.Logic.{_↔_}
-use mathlib.Core.Path.{_≡_, refl, sym, _∙_, ap, ap₂}
+use mathlib.Core.Path.{_≡_, refl, sym, _∙_, ap}
 use Prim.Native.Nat.{ℕ, _≤_, _<_}
 use mathlib.Core.Bool.{true, false}
 use native.Mathlib.Omega.{arith}
@@ -14,28 +14,11 @@ use Rattle.laws.proofs.Answers.{one-answer}
 use Rattle.session.specs.declared.Session.{Session}
 use Rattle.load.specs.Posts.{void, filledIn}
 use Rattle.load.specs.Deliver.{deliverOf, cellsAfter}
-use Rattle.load.specs.declared.Answer.{Answer}
-use Rattle.load.specs.declared.Answer.the-variants.{Taken, Held, Refused}
-use Rattle.load.specs.declared.Delivered.{Delivered}
+use Rattle.load.specs.declared.Answer.the-variants.{Taken, Held}
 use Rattle.meaning.specs.Text.{blocksIn, profilesIn, cellsIn, postsIn, heightIn, allHeights, cellOfPost}
 use Rattle.meaning.specs.Rules.{firstBreach}
 use Rattle.meaning.specs.Means.{begunSession, sessionOf, gridOf}
-use Rattle.meaning.specs.Deliveries.{
-  Reader,
-  Keeps,
-  Delivery,
-  Desk,
-  Due,
-  Disturbed,
-  refusedBy,
-  answerTo,
-  atFirst,
-  answered,
-  after,
-  afterAll,
-  takenText,
-  twice,
-}
+use Rattle.meaning.specs.Deliveries.{Reader, Keeps, Delivery, Desk, Due, Disturbed, refusedBy, answerTo, atFirst, answered, after, afterAll, takenText, twice}
 use Rattle.meaning.specs.PaperSheet.{paperLent, paperSheet, paperDesk, allAnswered}
 use Rattle.meaning.proofs.EachPost as Cells
 use Rattle.meaning.proofs.OneDelivery.{Stands, stands-first, answer-told, not-taken-nothing as nothing-changed}

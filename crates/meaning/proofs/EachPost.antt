@@ -14,29 +14,7 @@ use lib.Seq.{getD-append-add, getD-drop, take-at}
 use Rattle.laws.proofs.Tests.{and-first, and-second}
 use Rattle.number.proofs.GrammarParts.{by-test}
 use Rattle.load.specs.Posts.{void, sameZ, filledIn}
-use Rattle.meaning.specs.Text.{
-  from,
-  below,
-  joined,
-  blocksIn,
-  profilesIn,
-  columnsIn,
-  rowsIn,
-  cellsIn,
-  startOf,
-  headIn,
-  postsIn,
-  heightIn,
-  heightsIn,
-  allHeights,
-  columnIn,
-  rowIn,
-  cellOfPost,
-  profileAt,
-  postStands,
-  valueAt,
-  cellIn,
-}
+use Rattle.meaning.specs.Text.{from, below, joined, blocksIn, profilesIn, columnsIn, rowsIn, cellsIn, startOf, headIn, postsIn, heightIn, heightsIn, allHeights, columnIn, rowIn, cellOfPost, profileAt, postStands, valueAt, cellIn}
 use Rattle.meaning.specs.Rules.{firstBreach}
 use Rattle.meaning.specs.Means.{gridOf}
 use Rattle.meaning.proofs.Lists.{from-length}

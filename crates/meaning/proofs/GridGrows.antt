@@ -15,67 +15,15 @@ use Rattle.sheet.specs.declared.record_a.Header.{Header}
 use Rattle.profile.specs.declared.record_b.Head.{Head}
 use Rattle.load.specs.Posts.{void}
 use Rattle.load.proofs.Cells.{sets-before, sets-after, sets-inside}
-use Rattle.meaning.specs.Text.{
-  from,
-  below,
-  joined,
-  blocksIn,
-  profilesIn,
-  rowsIn,
-  cellsIn,
-  startOf,
-  headIn,
-  roomIn,
-  postsIn,
-  heightIn,
-  heightsIn,
-  allHeights,
-  numberOn,
-  columnIn,
-  rowIn,
-  cellOfPost,
-  profileAt,
-  postStands,
-  valueAt,
-  cellIn,
-}
+use Rattle.meaning.specs.Text.{from, below, joined, blocksIn, profilesIn, rowsIn, cellsIn, startOf, headIn, roomIn, postsIn, heightIn, heightsIn, allHeights, numberOn, columnIn, rowIn, cellOfPost, profileAt, postStands, valueAt, cellIn}
 use Rattle.meaning.specs.Rules.{firstBreach, postsOfBlock}
 use Rattle.meaning.specs.Means.{gridOf}
 use Rattle.meaning.proofs.Lists.{from-length, map-same}
 use Rattle.meaning.proofs.Starts.{start-order, start-from, none-yet}
-use Rattle.meaning.proofs.Joined.{
-  Extends,
-  Here,
-  start-same,
-  head-same,
-  header-same,
-  column-same,
-  row-same,
-  height-same,
-  heights-whole,
-  one-block-more,
-  within-blocks,
-  not-over,
-  posts-after,
-  newHeights,
-  heights-grow,
-}
+use Rattle.meaning.proofs.Joined.{Extends, Here, start-same, head-same, header-same, column-same, row-same, height-same, heights-whole, one-block-more, within-blocks, not-over, posts-after, newHeights, heights-grow}
 use Rattle.meaning.proofs.SessionGrows.{new-length}
 use Rattle.meaning.proofs.Placed.{placed-at}
-use Rattle.meaning.proofs.EachPost.{
-  map-at,
-  StandsFor,
-  stands-for,
-  value-void,
-  value-of-post,
-  begun-with,
-  begun-grid,
-  grid-cell,
-  past-the-sheet,
-  grid-length,
-  post-in-sheet,
-  post-in-its-cell,
-}
+use Rattle.meaning.proofs.EachPost.{map-at, StandsFor, stands-for, value-void, value-of-post, begun-with, begun-grid, grid-cell, past-the-sheet, grid-length, post-in-sheet, post-in-its-cell}
 
 heights-many : (text : List ℕ) (j : ℕ) → length (heightsIn text j) ≡ postsIn text j
 heights-many text j = length-map (below (postsIn text j)) (heightIn text j) ∙ from-length 0 (postsIn text j)

@@ -1,13 +1,12 @@
 -- A text and the same text with one block more: what the first has, the second has too, profile by profile and post by post.
 -- That the earlier blocks are the same carries it.
-use mathlib.Core.Bool.{Bool, true, false, cond}
+use mathlib.Core.Bool.{true, false}
 use mathlib.Core.List.{List, [], _∷_, _++_, map}
 use mathlib.Core.Path.{_≡_, refl, sym, _∙_, ap, ap₂}
-use Prim.Native.Nat.{ℕ, zero, suc, _+_, _*_, _-_, _/_, _%_, _≤_, _<_, min}
-use native.Mathlib.Nat.{add-zero}
+use Prim.Native.Nat.{ℕ, zero, suc, _+_, _*_, _-_, _/_, _≤_, _<_, min}
 use native.Mathlib.Omega.{arith}
 use borrow.Author.Tests.{ltb-true, ltb-false, lt-ltb, le-ltb}
-use lib.Dec.{leb, ltb, eqb}
+use lib.Dec.{ltb}
 use lib.IntN.{ℤ}
 use lib.ListN.{length, take, drop, length-append, length-drop}
 use lib.Seq.{take-append-le, drop-append-le, take-all, drop-at}
@@ -20,31 +19,10 @@ use Rattle.sheet.specs.declared.record_a.Header.{Header}
 use Rattle.profile.specs.RecordB.{headOf}
 use Rattle.profile.specs.declared.record_b.Head.{Head}
 use Rattle.load.specs.Posts.{height, heights, postsOf, blocksFor}
-use Rattle.meaning.specs.Text.{
-  from,
-  below,
-  joined,
-  blockAt,
-  blocksIn,
-  headerIn,
-  profilesIn,
-  zIn,
-  startOf,
-  headIn,
-  roomIn,
-  postsIn,
-  postBlock,
-  postByte,
-  postIn,
-  heightIn,
-  heightsIn,
-  allHeights,
-  columnPlaceIn,
-  rowPlaceIn,
-}
+use Rattle.meaning.specs.Text.{from, below, joined, blockAt, blocksIn, headerIn, profilesIn, zIn, startOf, headIn, roomIn, postsIn, postBlock, postByte, heightIn, heightsIn, allHeights, columnPlaceIn, rowPlaceIn}
 use Rattle.meaning.specs.Rules.{postsOfBlock, postsByte}
-use Rattle.meaning.proofs.Lists.{from-append, map-append, map-same, map-shift, joined-until, append-nil, append-brackets}
-use Rattle.meaning.proofs.Starts.{next-start, start-order, start-from, none-yet}
+use Rattle.meaning.proofs.Lists.{from-append, map-append, map-same, map-shift, joined-until, append-brackets}
+use Rattle.meaning.proofs.Starts.{next-start, start-order, none-yet}
 
 -- what is looked up, over the header, the profile's head and the block that it depends on
 abbrev pub columnBy : Header → Head → Place

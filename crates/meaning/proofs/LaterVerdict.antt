@@ -2,55 +2,23 @@
 use mathlib.Core.Bool.{Bool, true, false, cond, not}
 use mathlib.Core.List.{List, [], _∷_, _++_, map}
 use mathlib.Core.Path.{_≡_, refl, sym, _∙_, ap, ap₂}
-use Prim.Native.Nat.{ℕ, zero, suc, _+_, _*_, _-_, _≤_, _<_}
+use Prim.Native.Nat.{ℕ, suc, _+_, _-_, _≤_, _<_}
 use native.Mathlib.Omega.{arith}
-use borrow.Author.Tests.{ltb-true, ltb-false, lt-ltb, le-ltb, le-leb, lt-leb, leb-true, leb-false, eq-eqb, ne-eqb, eqb-true, eqb-false}
+use borrow.Author.Tests.{ltb-true, ltb-false, lt-ltb, le-ltb, le-leb, lt-leb, leb-true, leb-false, eq-eqb, ne-eqb}
 use lib.Dec.{leb, ltb, eqb}
-use lib.IntN.{ℤ}
 use lib.ListN.{length}
-use Rattle.laws.proofs.Tests.{clash}
 use Rattle.number.proofs.GrammarParts.{by-test}
 use Rattle.sheet.specs.declared.record_a.Header.{Header}
 use Rattle.sheet.specs.RecordA.{faultOf}
 use Rattle.profile.specs.RecordB.{recordB, headFault}
 use Rattle.profile.specs.RecordC.{recordC}
-use Rattle.session.specs.Session.{busy, noProfile}
-use Rattle.session.specs.declared.Profile.{Profile}
+use Rattle.session.specs.Session.{busy}
 use Rattle.session.specs.declared.Session.{Session}
 use Rattle.load.specs.Posts.{filledIn}
-use Rattle.load.specs.Deliver.{Verdict, fills, unless, later, further, opening, complete, filling, nextCell, finishedSession}
-use Rattle.meaning.specs.Text.{
-  below,
-  joined,
-  blockAt,
-  blocksIn,
-  headerIn,
-  profilesIn,
-  startOf,
-  allHeights,
-  columnIn,
-  numberOn,
-}
-use Rattle.meaning.specs.Rules.{
-  Breach,
-  breach,
-  inBlock,
-  rule,
-  when,
-  firstBroken,
-  firstBreach,
-  sheetRules,
-  endRules,
-  filledOnly,
-  leastOf,
-  greatestOf,
-  blockRules,
-  placeRules,
-  endOf,
-  blocksOfSheet,
-  isComplete,
-}
-use Rattle.meaning.specs.Means.{closedIn, closedOf, isOpen, begunSession}
+use Rattle.load.specs.Deliver.{fills, unless, later, further, opening, complete, filling, nextCell, finishedSession}
+use Rattle.meaning.specs.Text.{below, joined, blockAt, blocksIn, headerIn, profilesIn, startOf, columnIn, numberOn}
+use Rattle.meaning.specs.Rules.{Breach, breach, inBlock, rule, when, firstBroken, firstBreach, sheetRules, endRules, filledOnly, leastOf, greatestOf, blockRules, placeRules, endOf, blocksOfSheet, isComplete}
+use Rattle.meaning.specs.Means.{closedIn, isOpen, begunSession}
 use Rattle.meaning.proofs.Lists.{Kept, append-brackets, kept-rest}
 use Rattle.meaning.proofs.Starts.{closed-most, closed-start, closed-next, closed-is, start-order, start-from}
 use Rattle.meaning.proofs.Joined.{Extends, Here, start-same, header-same, column-same, newHeights}

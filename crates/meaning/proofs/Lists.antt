@@ -1,16 +1,15 @@
 -- Numbers from a to b, lists joined, and the first broken rule of a list. Each law is one induction on a list or a count.
-use mathlib.Core.Bool.{Bool, true, false, cond}
 use mathlib.Core.List.{List, [], _∷_, _++_, map}
 use mathlib.Core.Path.{_≡_, refl, sym, _∙_, ap, ap₂}
 use Prim.Native.Nat.{ℕ, zero, suc, _+_, _-_, _≤_, _<_}
 use native.Mathlib.Nat.{add-zero}
 use native.Mathlib.Omega.{arith}
-use borrow.Author.Tests.{eqb-true, eqb-false, eq-eqb, ne-eqb}
+use borrow.Author.Tests.{eqb-true, eqb-false}
 use lib.Dec.{eqb}
 use lib.ListN.{length, getD}
 use Rattle.number.proofs.GrammarParts.{by-test}
 use Rattle.meaning.specs.Text.{from, below, joined}
-use Rattle.meaning.specs.Rules.{Breach, none, firstBroken, when}
+use Rattle.meaning.specs.Rules.{Breach, firstBroken}
 
 pub from-length : (a n : ℕ) → length (from a n) ≡ n
 from-length a zero = refl

@@ -1,59 +1,41 @@
 -- One delivery to a desk whose session and grid are what a text means: it is answered as the text says, and session and grid are then
 -- what the text with the block, if taken, means. The verdicts of LaterVerdict, test by test, carry it.
 use mathlib.Core.Bool.{Bool, true, false, cond, not}
-use mathlib.Core.List.{List, [], _∷_, _++_}
+use mathlib.Core.List.{List, [], _++_}
 use mathlib.Core.Path.{_≡_, refl, sym, _∙_, ap, ap₂}
-use Prim.Native.Nat.{ℕ, zero, suc, _+_, _*_, _-_, _/_, _≤_, _<_}
+use Prim.Native.Nat.{ℕ, _+_, _*_, _-_, _≤_, _<_}
 use native.Mathlib.Nat.{add-assoc}
 use native.Mathlib.Omega.{arith}
-use borrow.Author.Tests.{ltb-true, ltb-false, lt-ltb, le-ltb, leb-true, leb-false, eq-eqb, ne-eqb, eqb-true, eqb-false}
-use lib.Dec.{leb, ltb, eqb}
+use borrow.Author.Tests.{ltb-true, ltb-false, le-ltb, eq-eqb, ne-eqb, eqb-true, eqb-false}
+use lib.Dec.{ltb, eqb}
 use lib.IntN.{ℤ}
 use lib.ListN.{length, drop, replicate, length-append}
 use lib.Seq.{sets}
-use Rattle.laws.proofs.Tests.{clash}
 use Rattle.number.proofs.GrammarParts.{by-test}
-use Rattle.sheet.specs.RecordA.{faultOf, headerOf, recordA, rowsOf, columnsOf}
+use Rattle.sheet.specs.RecordA.{faultOf, headerOf, recordA, rowsOf}
 use Rattle.sheet.specs.declared.record_a.Header.{Header}
 use Rattle.session.specs.Session.{fresh, noProfile, sound}
 use Rattle.session.specs.declared.Session.{Session}
 use Rattle.load.specs.Posts.{void, filledIn}
-use Rattle.load.specs.Deliver.{
-  Verdict,
-  again,
-  wrong,
-  begins,
-  fills,
-  answerOf,
-  cellsBy,
-  cellsOf,
-  begun,
-  beginning,
-  later,
-  complete,
-  nextCell,
-  deliverOf,
-  cellsAfter,
-  verdictOf,
-}
+use Rattle.load.specs.Deliver.{Verdict, again, wrong, begins, fills, answerOf, cellsBy, cellsOf, begun, beginning, later, complete, nextCell, verdictOf}
 use Rattle.load.specs.declared.Answer.{Answer}
 use Rattle.load.specs.declared.Delivered.{Delivered}
 use Rattle.load.specs.declared.Answer.the-variants.{Taken, Held, Refused}
 use Rattle.load.proofs.SoundOut.{sound-out}
-use Rattle.meaning.specs.Text.{blockAt, blocksIn, headerIn, profilesIn, rowsIn, columnsIn, cellsIn, startOf, postsIn, heightsIn, allHeights, columnIn, rowIn, cellOfPost}
-use Rattle.meaning.specs.Rules.{Breach, breach, firstBreach, filledOnly, leastOf, greatestOf, isComplete, inBlock, endOf}
+use Rattle.meaning.specs.Text.{blockAt, blocksIn, headerIn, profilesIn, rowsIn, cellsIn, startOf, postsIn, heightsIn, allHeights, columnIn, rowIn, cellOfPost}
+use Rattle.meaning.specs.Rules.{Breach, firstBreach, filledOnly, leastOf, greatestOf, isComplete, inBlock, endOf}
 use Rattle.meaning.specs.Means.{closedIn, isOpen, begunSession, sessionOf, gridOf}
 use Rattle.meaning.specs.Deliveries.{Reader, Keeps, Delivery, Desk, refusedBy, answerTo, atFirst, answered, after, bytesIf}
 use Rattle.meaning.proofs.Lists.{append-nil, joined-empty}
 use Rattle.meaning.proofs.Starts.{next-start, start-from, none-yet, closed-is}
-use Rattle.meaning.proofs.Joined.{Extends, Here, join-extends, header-same, same-start, newHeights}
-use Rattle.meaning.proofs.SessionGrows.{readSoFar, closed-here}
+use Rattle.meaning.proofs.Joined.{Extends, join-extends, header-same, same-start, newHeights}
+use Rattle.meaning.proofs.SessionGrows.{readSoFar}
 use Rattle.meaning.proofs.Verdicts.{byBreach}
 use Rattle.meaning.proofs.Placed.{placed-at}
 use Rattle.meaning.proofs.EachPost.{grid-length}
 use Rattle.meaning.proofs.RulesGrow.{first-due-broken, first-due-kept}
 use Rattle.meaning.proofs.GridGrows.{grid-grows, grid-idle, grid-begun}
-use Rattle.meaning.proofs.LaterVerdict.{profile-verdict, finish-verdict, complete-breach, here-now, all-now, incomplete, complete-is, behind}
+use Rattle.meaning.proofs.LaterVerdict.{profile-verdict, finish-verdict, here-now, all-now, complete-is, behind}
 
 -- whole blocks that break no rule, in a grid long enough for their sheet; the session that they mean is sound
 pub record Good (text : List ℕ) (lent : List ℤ) : Type 0 where

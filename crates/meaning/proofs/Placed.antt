@@ -18,43 +18,8 @@ use Rattle.profile.specs.RecordB.{recordB, headFault, headOf}
 use Rattle.profile.specs.declared.record_b.Headed.the-variants.{Profile}
 use Rattle.profile.proofs.RecordLaws.{head-bounds}
 use Rattle.load.proofs.SoundOut.{sheet-obeys}
-use Rattle.meaning.specs.Text.{
-  below,
-  joined,
-  blockAt,
-  blocksIn,
-  headerIn,
-  profilesIn,
-  columnsIn,
-  rowsIn,
-  startOf,
-  headIn,
-  numberOn,
-  columnPlaceIn,
-  rowPlaceIn,
-  columnIn,
-  rowIn,
-}
-use Rattle.meaning.specs.Rules.{
-  Breach,
-  breach,
-  inBlock,
-  rule,
-  firstBreach,
-  when,
-  blockRules,
-  columnKept,
-  rowKept,
-  placeRules,
-  profileRules,
-  blocksOf,
-  isWhole,
-  closingRules,
-  sheetRules,
-  endOf,
-  endRules,
-  hasBegun,
-}
+use Rattle.meaning.specs.Text.{below, joined, blockAt, blocksIn, headerIn, profilesIn, columnsIn, rowsIn, startOf, headIn, numberOn, columnPlaceIn, rowPlaceIn, columnIn, rowIn}
+use Rattle.meaning.specs.Rules.{Breach, breach, inBlock, rule, firstBreach, when, blockRules, columnKept, rowKept, placeRules, profileRules, blocksOf, isWhole, closingRules, sheetRules, endOf, endRules, hasBegun}
 use Rattle.meaning.proofs.Lists.{Kept, kept-front, kept-rest, kept-at}
 use Rattle.meaning.proofs.Starts.{start-order}
 

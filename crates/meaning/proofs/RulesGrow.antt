@@ -18,87 +18,12 @@ use Rattle.profile.specs.RecordC.{recordC}
 use Rattle.profile.specs.declared.record_b.Head.{Head}
 use Rattle.load.specs.Posts.{sameZ, postsFault, restFault, blocksFor}
 use Rattle.load.proofs.SoundOut.{sheet-obeys}
-use Rattle.meaning.specs.Text.{
-  from,
-  below,
-  joined,
-  blockAt,
-  blocksIn,
-  profilesIn,
-  startOf,
-  headIn,
-  heightsIn,
-  allHeights,
-  numberOn,
-  columnPlaceIn,
-  rowPlaceIn,
-}
-use Rattle.meaning.specs.Rules.{
-  Breach,
-  breach,
-  inBlock,
-  rule,
-  firstBroken,
-  firstBreach,
-  when,
-  leastStated,
-  greatestStated,
-  postsOfBlock,
-  postsByte,
-  blockRules,
-  columnKept,
-  rowKept,
-  placeRules,
-  closingRules,
-  blocksOf,
-  isWhole,
-  profileRules,
-  sheetRules,
-  endOf,
-  blocksOfSheet,
-  hasBegun,
-  endRules,
-}
-use Rattle.meaning.proofs.Lists.{
-  from-append,
-  map-append,
-  map-same,
-  append-nil,
-  append-brackets,
-  joined-append,
-  joined-empty,
-  joined-until,
-  Kept,
-  first-append,
-  kept-front,
-  kept-rest,
-  kept-all,
-}
+use Rattle.meaning.specs.Text.{from, below, joined, blockAt, blocksIn, profilesIn, startOf, headIn, heightsIn, allHeights, numberOn, columnPlaceIn, rowPlaceIn}
+use Rattle.meaning.specs.Rules.{Breach, breach, inBlock, rule, firstBroken, firstBreach, when, leastStated, greatestStated, postsOfBlock, postsByte, blockRules, columnKept, rowKept, placeRules, closingRules, blocksOf, isWhole, profileRules, sheetRules, endOf, blocksOfSheet, hasBegun, endRules}
+use Rattle.meaning.proofs.Lists.{from-append, map-append, map-same, append-nil, append-brackets, joined-append, joined-empty, joined-until, Kept, first-append, kept-front, kept-rest, kept-all}
 use Rattle.meaning.proofs.Starts.{next-start, start-order, start-from}
-use Rattle.meaning.proofs.Joined.{
-  Extends,
-  Here,
-  start-same,
-  head-same,
-  header-same,
-  column-same,
-  row-same,
-  heights-whole,
-  not-over,
-}
-use Rattle.meaning.proofs.Placed.{
-  first-kept,
-  behind-kept,
-  begunRules,
-  lastRules,
-  behindA,
-  behindPlace,
-  behindHead,
-  headRule,
-  header-fine,
-  profile-kept,
-  place-kept,
-}
+use Rattle.meaning.proofs.Joined.{Extends, Here, start-same, head-same, header-same, column-same, row-same, heights-whole, not-over}
+use Rattle.meaning.proofs.Placed.{first-kept, behind-kept, begunRules, lastRules, behindA, behindPlace, behindHead, headRule, header-fine, profile-kept, place-kept}
 
 -- ---- lists of rules, of which the first are kept
 

@@ -1,40 +1,20 @@
 -- Lists of deliveries: what stands after each, by induction on the list; and when a delivery is taken, read off what it is answered.
 use mathlib.Core.Bool.{Bool, true, false, cond, not}
 use mathlib.Core.List.{List, [], _∷_, _++_}
-use mathlib.Core.Path.{_≡_, refl, sym, _∙_, ap, ap₂}
-use Prim.Native.Nat.{ℕ, zero, suc, _+_, _*_, _≤_, _<_}
+use mathlib.Core.Path.{_≡_, refl, sym, _∙_, ap}
+use Prim.Native.Nat.{ℕ, suc, _+_, _≤_, _<_}
 use native.Mathlib.Omega.{arith}
-use borrow.Author.Tests.{ltb-true, ltb-false, lt-ltb, le-ltb, eq-eqb, ne-eqb, eqb-true, eqb-false}
-use lib.Dec.{leb, ltb, eqb}
+use borrow.Author.Tests.{ltb-false, le-ltb, eq-eqb, eqb-true, eqb-false}
+use lib.Dec.{ltb, eqb}
 use lib.IntN.{ℤ}
 use lib.ListN.{length}
 use Rattle.laws.proofs.Tests.{clash}
 use Rattle.number.proofs.GrammarParts.{by-test}
 use Rattle.load.specs.declared.Answer.{Answer}
 use Rattle.load.specs.declared.Answer.the-variants.{Taken, Held, Refused}
-use Rattle.meaning.specs.Text.{blocksIn, profilesIn, cellsIn}
+use Rattle.meaning.specs.Text.{blocksIn, cellsIn}
 use Rattle.meaning.specs.Rules.{Breach, breach, firstBreach, isComplete}
-use Rattle.meaning.specs.Means.{closedIn}
-use Rattle.meaning.specs.Deliveries.{
-  Reader,
-  Keeps,
-  Delivery,
-  Desk,
-  Due,
-  Disturbed,
-  ended,
-  sent,
-  disturbed,
-  refusedBy,
-  answerTo,
-  atFirst,
-  answered,
-  after,
-  afterAll,
-  bytesIf,
-  takenText,
-  twice,
-}
+use Rattle.meaning.specs.Deliveries.{Reader, Keeps, Delivery, Desk, Due, Disturbed, ended, sent, disturbed, refusedBy, answerTo, atFirst, answered, after, afterAll, bytesIf, takenText, twice}
 use Rattle.meaning.proofs.Lists.{append-nil, append-brackets}
 use Rattle.meaning.proofs.Joined.{Extends, join-extends}
 use Rattle.meaning.proofs.LaterVerdict.{complete-breach, all-now, incomplete}

@@ -1,52 +1,27 @@
 -- A good block of a profile: the session after it is the one that the text with it means. Heights grown by the block's own carry it.
-use mathlib.Core.Bool.{Bool, true, false, cond, not}
-use mathlib.Core.List.{List, [], _∷_, _++_, map}
-use mathlib.Core.Path.{_≡_, refl, sym, _∙_, ap, ap₂}
-use Prim.Native.Nat.{ℕ, zero, suc, _+_, _*_, _-_, _/_, _≤_, _<_, min}
+use mathlib.Core.Bool.{true, false}
+use mathlib.Core.List.{List}
+use mathlib.Core.Path.{_≡_, sym, _∙_, ap}
+use Prim.Native.Nat.{ℕ, suc, _+_, _*_, _-_, _≤_, _<_, min}
 use native.Mathlib.Omega.{arith}
-use borrow.Author.Tests.{ltb-true, ltb-false, lt-ltb, le-ltb, le-leb, lt-leb, eq-eqb, ne-eqb, eqb-true, eqb-false}
-use lib.Dec.{leb, ltb, eqb}
+use borrow.Author.Tests.{ltb-true, ltb-false, lt-ltb, le-ltb}
+use lib.Dec.{ltb}
 use lib.IntN.{ℤ}
 use lib.ListN.{length, length-append}
 use Rattle.number.proofs.GrammarParts.{by-test}
 use Rattle.sheet.specs.declared.record_a.Header.{Header}
-use Rattle.profile.specs.declared.record_b.Head.{Head}
-use Rattle.session.specs.Session.{noProfile, busy, openBlocks}
+use Rattle.session.specs.Session.{noProfile}
 use Rattle.session.specs.declared.Profile.{Profile}
 use Rattle.session.specs.declared.Session.{Session}
-use Rattle.load.specs.Posts.{postsOf, filledIn, blocksFor}
+use Rattle.load.specs.Posts.{postsOf, filledIn}
 use Rattle.load.specs.Deliver.{filledSession, closedSession, readOn}
 use Rattle.load.proofs.Heights.{heights-length}
 use Rattle.load.proofs.Scans.{posts-length}
-use Rattle.meaning.specs.Text.{
-  blocksIn,
-  headerIn,
-  profilesIn,
-  zIn,
-  startOf,
-  headIn,
-  roomIn,
-  postsIn,
-  heightsIn,
-  allHeights,
-  columnIn,
-  rowIn,
-}
-use Rattle.meaning.specs.Rules.{postsOfBlock, postsByte, filledOnly, leastOf, greatestOf, hasBegun, endOf}
-use Rattle.meaning.specs.Means.{closedIn, closedOf, isOpen, openProfile, begunSession}
+use Rattle.meaning.specs.Text.{blocksIn, headerIn, profilesIn, zIn, startOf, headIn, roomIn, postsIn, heightsIn, allHeights, columnIn, rowIn}
+use Rattle.meaning.specs.Rules.{postsOfBlock, postsByte, filledOnly, leastOf, greatestOf, endOf}
+use Rattle.meaning.specs.Means.{closedIn, isOpen, openProfile, begunSession}
 use Rattle.meaning.proofs.Starts.{next-start, start-order, closed-is}
-use Rattle.meaning.proofs.Joined.{
-  Extends,
-  Here,
-  header-same,
-  same-start,
-  not-over,
-  posts-before,
-  posts-after,
-  newHeights,
-  heights-grow,
-  all-grow,
-}
+use Rattle.meaning.proofs.Joined.{Extends, Here, header-same, same-start, not-over, posts-after, newHeights, heights-grow, all-grow}
 use Rattle.meaning.proofs.Counted.{counted-on}
 
 -- the session of a text whose profile c is still open

@@ -16,16 +16,7 @@ use Rattle.load.specs.declared.Answer.{Answer}
 use Rattle.load.specs.declared.Answer.the-variants.{Taken, Held, Refused}
 use Rattle.meaning.specs.Deliveries.{Reader, Keeps, Delivery, Desk, atFirst, after, afterAll}
 use Rattle.meaning.specs.PaperSheet.{paperA, profile1, block0, block1, paperSheet, paperLent}
-use Rattle.meaning.proofs.Witness.{
-  desk1,
-  block0-taken,
-  block1-taken,
-  after-block0,
-  after-block1,
-  paper-taken,
-  paper-posts,
-  paper-filled,
-}
+use Rattle.meaning.proofs.Witness.{desk1, block0-taken, block1-taken, after-block0, after-block1, paper-taken, paper-posts, paper-filled}
 
 abbrev pub isRefused : Answer → Bool
 isRefused Taken = false

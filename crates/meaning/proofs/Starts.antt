@@ -1,15 +1,13 @@
 -- Where profiles start in a text, and how many are closed. Starts rise by at least one block a profile; that carries the rest.
-use mathlib.Core.Bool.{Bool, true, false, cond}
 use mathlib.Core.List.{List}
-use mathlib.Core.Path.{_≡_, refl, sym, _∙_, ap}
-use Prim.Native.Nat.{ℕ, zero, suc, _+_, _*_, _-_, _/_, _≤_, _<_, min}
+use mathlib.Core.Path.{_≡_}
+use Prim.Native.Nat.{ℕ, zero, suc, _+_, _-_, _≤_, _<_}
 use native.Mathlib.Nat.{add-zero}
 use native.Mathlib.Omega.{arith}
-use borrow.Author.Tests.{eqb-true, eqb-false, leb-true, leb-false, le-leb, lt-leb, ltb-true, ltb-false, lt-ltb, le-ltb}
-use lib.Dec.{leb, ltb, eqb}
+use borrow.Author.Tests.{leb-true, leb-false, ltb-true, ltb-false}
+use lib.Dec.{leb, ltb}
 use Rattle.number.proofs.GrammarParts.{by-test}
-use Rattle.load.specs.Posts.{blocksFor}
-use Rattle.meaning.specs.Text.{startOf, headIn, blocksIn, profilesIn, postsIn, roomIn}
+use Rattle.meaning.specs.Text.{startOf, blocksIn, postsIn}
 use Rattle.meaning.specs.Means.{closedOf}
 
 pub next-start : (text : List ℕ) (j : ℕ) → startOf text j < startOf text (suc j)

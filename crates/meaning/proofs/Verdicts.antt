@@ -1,84 +1,26 @@
 -- The verdict on a good block's place in a profile is the first rule that the text with it breaks: what each test of a delivery asks
 -- is a rule of the text. Sessions grown by a block (SessionGrows) carry it.
 use mathlib.Core.Bool.{Bool, true, false, cond, not}
-use mathlib.Core.List.{List, [], _∷_, _++_, map}
+use mathlib.Core.List.{List, [], _∷_, _++_}
 use mathlib.Core.Path.{_≡_, refl, sym, _∙_, ap, ap₂}
-use Prim.Native.Nat.{ℕ, zero, suc, _+_, _*_, _-_, _/_, _≤_, _<_, min}
+use Prim.Native.Nat.{ℕ, suc, _+_, _-_, _/_, _≤_, _<_}
 use native.Mathlib.Omega.{arith}
-use borrow.Author.Tests.{ltb-true, ltb-false, lt-ltb, le-ltb, le-leb, lt-leb, eq-eqb, ne-eqb, eqb-true, eqb-false, leb-true, leb-false}
+use borrow.Author.Tests.{ltb-true, ltb-false, lt-ltb, le-ltb, le-leb, lt-leb, ne-eqb, eqb-true, eqb-false}
 use lib.Dec.{leb, ltb, eqb}
-use lib.IntN.{ℤ, pos}
-use lib.ListN.{length}
-use Rattle.laws.proofs.Tests.{clash}
 use Rattle.number.proofs.GrammarParts.{by-test}
-use Rattle.sheet.specs.declared.lattice.Place.{Place}
-use Rattle.sheet.specs.declared.lattice.Place.the-variants.{On, Off}
-use Rattle.sheet.specs.declared.record_a.Fault.{Fault}
 use Rattle.sheet.specs.declared.record_a.Header.{Header}
-use Rattle.profile.specs.RecordB.{recordB, headFault, headOf}
-use Rattle.profile.specs.declared.record_b.Head.{Head}
 use Rattle.session.specs.Session.{busy, openBlocks, noProfile}
 use Rattle.session.specs.declared.Profile.{Profile}
 use Rattle.session.specs.declared.Session.{Session}
-use Rattle.load.specs.Posts.{sameZ, postsFault, restFault, postsOf, heights, filledIn}
-use Rattle.load.specs.Deliver.{
-  Verdict,
-  again,
-  wrong,
-  begins,
-  fills,
-  unless,
-  blockFault,
-  closeFault,
-  closeVerdict,
-  closedSession,
-  filledSession,
-  filling,
-  nextCell,
-  refusal,
-  stated,
-}
-use Rattle.meaning.specs.Text.{
-  blocksIn,
-  headerIn,
-  profilesIn,
-  startOf,
-  headIn,
-  postsIn,
-  heightsIn,
-  allHeights,
-  columnIn,
-}
-use Rattle.meaning.specs.Rules.{
-  Breach,
-  breach,
-  none,
-  inBlock,
-  rule,
-  firstBroken,
-  when,
-  leastStated,
-  greatestStated,
-  closingRules,
-  sheetRules,
-  isWhole,
-  endOf,
-}
-use Rattle.meaning.specs.Means.{isOpen, openProfile, begunSession, closedIn}
+use Rattle.load.specs.Posts.{sameZ}
+use Rattle.load.specs.Deliver.{Verdict, wrong, begins, fills, closeFault, closeVerdict, closedSession, filling, nextCell, refusal}
+use Rattle.meaning.specs.Text.{blocksIn, headerIn, profilesIn, startOf, headIn, postsIn, heightsIn, allHeights, columnIn}
+use Rattle.meaning.specs.Rules.{Breach, breach, none, rule, firstBroken, when, leastStated, greatestStated, closingRules, sheetRules, isWhole, endOf}
+use Rattle.meaning.specs.Means.{isOpen, openProfile, begunSession}
 use Rattle.meaning.proofs.Starts.{next-start, start-order}
-use Rattle.meaning.proofs.Joined.{Extends, Here, header-same, same-start, not-over, newHeights}
+use Rattle.meaning.proofs.Joined.{Extends, Here, header-same, same-start, newHeights}
 use Rattle.meaning.proofs.Counted.{stated-least, stated-greatest}
-use Rattle.meaning.proofs.SessionGrows.{
-  openSession,
-  readSoFar,
-  closed-here,
-  session-filled,
-  session-open,
-  session-closed,
-  last-or-not,
-  read-is,
-  exactly,
-}
+use Rattle.meaning.proofs.SessionGrows.{openSession, readSoFar, closed-here, session-filled, session-open, session-closed, last-or-not, read-is, exactly}
 
 -- refused for a broken rule, or else
 abbrev pub byBreach : Breach → Verdict → Verdict

@@ -17,20 +17,7 @@ use Rattle.load.specs.declared.Answer.{Answer}
 use Rattle.load.specs.declared.Answer.the-variants.{Taken}
 use Rattle.load.specs.declared.Delivered.{Delivered}
 use Rattle.meaning.specs.Deliveries.{Reader, Keeps, Delivery, Desk, atFirst, answered, after, afterAll}
-use Rattle.meaning.specs.PaperSheet.{
-  paperA,
-  profile1,
-  profile2,
-  block0,
-  block1,
-  block2,
-  paperSheet,
-  paperLent,
-  paperHeader,
-  paperSession,
-  paperDesk,
-  allAnswered,
-}
+use Rattle.meaning.specs.PaperSheet.{paperA, profile1, profile2, block0, block1, block2, paperSheet, paperLent, paperHeader, paperSession, paperDesk, allAnswered}
 
 -- ---- the desk between the blocks
 

@@ -1,0 +1,132 @@
+-- Blocks that follow the layout, delivered in order from a fresh session: each is taken, the sheet is complete, and every cell of it is
+-- the one that they hold. Demand 3 (meaning) carries it.
+use mathlib.Core.Bool.{true, false, cond}
+use mathlib.Core.List.{List, [], _∷_, _++_, map}
+use mathlib.Core.Path.{_≡_, refl, sym, _∙_, ap, ap₂}
+use Prim.Native.Nat.{ℕ, zero, suc, _+_, _*_, _-_, _≤_, _<_}
+use native.Mathlib.Omega.{arith}
+use native.Mathlib.Nat.{mul-le-mul-right, suc-mul}
+use borrow.Author.Tests.{ne-eqb}
+use lib.Dec.{leb, eqb}
+use lib.IntN.{ℤ}
+use lib.ListN.{length, getD}
+use Rattle.sheet.specs.RecordA.{columnsOf, rowsOf}
+use Rattle.sheet.specs.declared.record_a.Header.{Header}
+use Rattle.load.specs.Posts.{void}
+use Rattle.load.specs.Deliver.{cellsOf, complete}
+use Rattle.load.specs.declared.Answer.{Answer}
+use Rattle.load.specs.declared.Answer.the-variants.{Taken}
+use Rattle.meaning.specs.Text.{from, below, blocksIn, cellsIn}
+use Rattle.meaning.specs.Rules.{firstBreach}
+use Rattle.meaning.specs.Means.{begunSession, sessionOf, gridOf}
+use Rattle.meaning.specs.Deliveries.{Reader, Keeps, Delivery, Desk, Due, atFirst, answered, after, afterAll, bytesIf, takenText}
+use Rattle.meaning.proofs.Lists.{from-append, map-append, append-nil, append-brackets}
+use Rattle.meaning.proofs.Joined.{join-extends}
+use Rattle.meaning.proofs.EachPost.{grid-cell}
+use Rattle.meaning.proofs.LaterVerdict.{complete-is}
+use Rattle.meaning.proofs.Demand3.{taken-exactly, session-means, grid-means}
+use Rattle.returns.proofs.Following.{Follows, startBy, textTo, header-at, text-length, prefix-kept, prefix-blocks, prefix-next, whole-header, whole-complete, cell-back}
+
+-- a list of deliveries with one more: the text taken, and the desk
+taken-more : (r : Reader) (k : Desk) (ds : List Delivery) (d : Delivery)
+    → takenText r k (ds ++ (d ∷ [])) ≡ takenText r k ds ++ bytesIf (answered r (afterAll r k ds) d) (d .bytes)
+taken-more r k [] d = append-nil (bytesIf (answered r k d) (d .bytes))
+taken-more r k (e ∷ ds) d =
+    ap (λ (l : List ℕ). bytesIf (answered r k e) (e .bytes) ++ l) (taken-more r (after r k e) ds d)
+    ∙ sym (append-brackets (bytesIf (answered r k e) (e .bytes)) (takenText r (after r k e) ds)
+    (bytesIf (answered r (afterAll r (after r k e) ds) d) (d .bytes)))
+
+-- the first k blocks, numbered from 0
+abbrev pub delivery : (ℕ → List ℕ) → ℕ → Delivery
+delivery at b = record { number = b; bytes = at b }
+
+abbrev pub inOrder : (ℕ → List ℕ) → ℕ → List Delivery
+inOrder at k = map (delivery at) (below k)
+
+in-order-more : (at : ℕ → List ℕ) (k : ℕ) → inOrder at (suc k) ≡ inOrder at k ++ (delivery at k ∷ [])
+in-order-more at k =
+    let e : suc k ≡ k + 1 = omega arith in
+    let z : 0 + k ≡ k = omega arith in
+    ap (inOrder at) e
+    ∙ ap (map (delivery at)) (from-append 0 k 1)
+    ∙ map-append (delivery at) (below k) (from (0 + k) 1)
+    ∙ ap (λ (i : ℕ). inOrder at k ++ (delivery at i ∷ [])) z
+
+module _ (at : ℕ → List ℕ) (cells : ℕ → List ℤ) (row : ℕ → ℕ) (h : Header) (w : Follows at cells row h)
+    (r : Reader) (keeps : Keeps r) (lent : List ℤ) (room : cellsOf h ≤ length lent) where
+  abbrev count : ℕ
+  count = startBy cells (columnsOf h)
+
+  abbrev text : ℕ → List ℕ
+  text k = textTo at cells row h w k
+
+  due : (k : ℕ) → k < count → Due (text k) lent (delivery at k)
+  due k lt =
+      let t = prefix-next at cells row h w k in
+      let c : cellsIn (text (suc k)) ≡ cellsOf h = ap cellsOf (header-at at cells row h w (suc k) lt (omega arith)) in
+      record {
+        next = sym (prefix-blocks at cells row h w k (omega (arith, lt)));
+        block = w .long k lt;
+        kept = ap (λ (l : List ℕ). firstBreach l .kind) (sym t) ∙ prefix-kept at cells row h w k lt;
+        room = omega (arith, ap cellsIn t, c, room);
+      }
+
+  text-taken : (k : ℕ) → k ≤ count → takenText r (atFirst lent) (inOrder at k) ≡ text k
+  text-taken zero le = refl
+  text-taken (suc k) le =
+      let ds = inOrder at k in
+      let before = text-taken k (omega (arith, le)) in
+      let taken : answered r (afterAll r (atFirst lent) ds) (delivery at k) ≡ Taken
+      = taken-exactly r keeps lent ds (delivery at k) .1 (rw before (due k le)) in
+      ap (takenText r (atFirst lent)) (in-order-more at k)
+      ∙ taken-more r (atFirst lent) ds (delivery at k)
+      ∙ ap₂ (λ (l : List ℕ) (a : Answer). l ++ bytesIf a (at k)) before taken
+      ∙ sym (prefix-next at cells row h w k)
+
+  -- every block is taken in its turn
+  pub each-taken : (k : ℕ) → k < count → answered r (afterAll r (atFirst lent) (inOrder at k)) (delivery at k) ≡ Taken
+  each-taken k lt =
+      taken-exactly r keeps lent (inOrder at k) (delivery at k) .1 (rw (text-taken k (omega (arith, lt))) (due k lt))
+
+  abbrev desk : Desk
+  desk = afterAll r (atFirst lent) (inOrder at count)
+
+  some-blocks : 1 ≤ blocksIn (text count)
+  some-blocks = omega (arith, prefix-blocks at cells row h w count (omega arith), begins (columnsOf h))
+    where
+      begins : (c : ℕ) → 1 ≤ startBy cells c
+      begins zero = omega arith
+      begins (suc c) = omega (arith, begins c)
+
+  -- the session afterwards is complete
+  pub completes : complete (desk .session) ≡ true
+  completes =
+      let t = text-taken count (omega arith) in
+      let n = text count in
+      let e : eqb (blocksIn n) 0 ≡ false = ne-eqb (blocksIn n) 0 (λ z. omega (arith, z, some-blocks)) in
+      let b : sessionOf n ≡ begunSession n = rw e in
+      let k = prefix-blocks at cells row h w count (omega arith) in
+      let zero-long : length (at 0) ≡ 1024 = w .long 0 (omega (arith, k, some-blocks)) in
+      let x = join-extends n (at 0) (blocksIn n) (text-length at cells row h w count (omega arith) ∙ ap (λ (m : ℕ). 1024 * m) (sym k)) zero-long in
+      let kept : firstBreach n .kind ≡ 0 = last-kept in
+      ap complete (session-means r keeps lent (inOrder at count) ∙ ap sessionOf t ∙ b)
+      ∙ complete-is n (n ++ at 0) (at 0) (blocksIn n) x some-blocks kept
+      ∙ whole-complete at cells row h w
+    where
+      last-kept : firstBreach (text count) .kind ≡ 0
+      last-kept =
+          let k = prefix-blocks at cells row h w count (omega arith) in
+          let e : suc (count - 1) ≡ count = omega (arith, k, some-blocks) in
+          ap (λ (m : ℕ). firstBreach (text m) .kind) (sym e) ∙ prefix-kept at cells row h w (count - 1) (omega (arith, e))
+
+  -- every cell of the sheet is the one that the blocks hold
+  pub each-cell : (j i : ℕ) → j < columnsOf h → i < rowsOf h
+      → getD (desk .grid) (j * rowsOf h + i) void ≡ cond (leb (row j) i) (getD (cells j) (i - row j) void) void
+  each-cell j i lt less =
+      let t = text-taken count (omega arith) in
+      let c : cellsIn (text count) ≡ cellsOf h = ap cellsOf (whole-header at cells row h w) in
+      let up : suc j * rowsOf h ≤ columnsOf h * rowsOf h = mul-le-mul-right (rowsOf h) lt in
+      let inside : j * rowsOf h + i < cellsIn (text count) = omega (arith, c, up, suc-mul j (rowsOf h), less) in
+      ap (λ (g : List ℤ). getD g (j * rowsOf h + i) void) (grid-means r keeps lent (inOrder at count) ∙ ap (λ (l : List ℕ). gridOf l lent) t)
+      ∙ grid-cell (text count) lent (j * rowsOf h + i) some-blocks inside
+      ∙ cell-back at cells row h w j i lt less

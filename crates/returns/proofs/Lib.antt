@@ -1,0 +1,9 @@
+pub mod PostsRead
+pub mod HeadReads
+pub mod ZeroReads
+pub mod Following
+pub mod InOrder
+pub mod SentFollows
+pub mod Accepted
+pub mod ShutOutWriters
+pub mod Demand2

@@ -1,0 +1,1 @@
+// No code: what the writer sends reads back as the cells it was given.

@@ -1,0 +1,3 @@
+pub mod ColumnsSent
+pub mod SheetSent
+pub mod PlacesSent

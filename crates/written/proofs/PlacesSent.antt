@@ -1,0 +1,239 @@
+-- Places sent stand on the lattice, and places and extremes fit their fields: between the corners, in thousands of billionths.
+use mathlib.Core.Bool.{true, false}
+use mathlib.Core.List.{List, [], _∷_}
+use mathlib.Core.Path.{_≡_, refl, _∙_, ap}
+use Prim.Native.Nat.{ℕ, zero, suc, _+_, _*_, _/_, _%_, _^_, _≤_, _<_}
+use native.Mathlib.Nat.{mul-le-mul, div-add-mod', dvd-of-mod-eq-zero, dvd-mul-left-of-dvd, mod-eq-zero-of-dvd}
+use native.Mathlib.Omega.{arith}
+use borrow.Author.Tests.{leb-true, eqb-true}
+use lib.Dec.{ltb, eqb}
+use lib.IntN.{ℤ, pos, negsuc, natAbs, _+ℤ_, _*ℤ_}
+use lib.ListN.{length, getD}
+use lib.Signed.{ltZ}
+use Rattle.laws.specs.Sign.{_and_}
+use Rattle.laws.specs.Digits.{short}
+use Rattle.laws.proofs.Integers.{parts, le-parts, size-multiple}
+use Rattle.laws.proofs.Tests.{and-first, and-second}
+use Rattle.number.proofs.GrammarParts.{by-test}
+use Rattle.spell.specs.Spell.{realFits}
+use Rattle.spell.proofs.Fits.{thousands-fit}
+use Rattle.sheet.specs.Lattice.{isReal, latticeOf, placeOf}
+use Rattle.sheet.specs.RecordA.{columnsOf, rowsOf, west, east, south, north, lesser, greater, billion}
+use Rattle.sheet.specs.declared.lattice.Place.the-variants.{On}
+use Rattle.sheet.specs.declared.record_a.Corner.{Corner}
+use Rattle.sheet.specs.declared.record_a.Header.{Header}
+use Rattle.sheet.proofs.Cases.{real-small, small-real}
+use Rattle.sheet.proofs.LatticeLaws.{lattice-is, on-place, first-real}
+use Rattle.session.specs.Session.{isRealNumber, cornerReal, headerObeys}
+use Rattle.session.proofs.Facts.{split, Heading, header-facts, Ranged}
+use Rattle.load.specs.Posts.{void, sameZ}
+use Rattle.load.specs.Deliver.{cellsOf}
+use Rattle.meaning.specs.Rules.{filledOnly, leastOf, greatestOf, leastStated, greatestStated}
+use Rattle.written.specs.Cells.{canSend, sendable, quotientFits, columnCells, firstRow}
+use Rattle.written.specs.Blocks.{xSent, ySent}
+use Rattle.written.proofs.ColumnsSent.{some-cells, cells-room, EachSends, each-sends}
+use Rattle.written.proofs.SheetSent.{column-length}
+
+-- ---- a multiple of the spacing between two reals
+
+module _ (least greatest : ℤ) (s : ℕ) (rl : isReal least ≡ true) (rg : isReal greatest ≡ true) (p : 1 ≤ s) (i : ℕ)
+    (here : i < latticeOf least greatest s .count) where
+  abbrev multiple : ℤ
+  multiple = latticeOf least greatest s .first +ℤ pos i
+
+  abbrev place : ℤ
+  place = multiple *ℤ pos s
+
+  place-small : natAbs place < 10 ^ 18
+  place-small =
+      let b = lattice-is least greatest s rl rg p multiple .1 (i, here, refl) in
+      let low = le-parts least place (b .0) in
+      let high = le-parts place greatest (b .1) in
+      omega (arith, low, high, parts least, parts greatest, parts place, real-small least rl, real-small greatest rg)
+
+  place-stands : placeOf (latticeOf least greatest s) s place ≡ On i
+  place-stands =
+      on-place (latticeOf least greatest s) s place (small-real place place-small) (first-real least greatest s) p i (here, refl)
+
+  place-fits : s % 10 ^ 3 ≡ 0 → realFits 15 24 place ≡ true
+  place-fits whole =
+      let rest : natAbs multiple * s % 10 ^ 3 ≡ 0 =
+      mod-eq-zero-of-dvd (10 ^ 3) (dvd-mul-left-of-dvd (10 ^ 3) (dvd-of-mod-eq-zero (10 ^ 3) whole) (natAbs multiple))
+      in
+      thousands-fit place place-small (ap (λ (n : ℕ). n % 10 ^ 3) (size-multiple multiple s) ∙ rest)
+
+-- ---- the corners of a header are reals
+
+number-real : (z : ℤ) → isRealNumber z ≡ true → isReal z ≡ true
+number-real z t = and-first (ltb (natAbs z) (10 ^ 18)) (short 18 15 (natAbs z)) t
+
+lesser-real : (a b : ℤ) → isReal a ≡ true → isReal b ≡ true → isReal (lesser a b) ≡ true
+lesser-real a b p q = by-test (ltZ b a) (λ e. rw e q) (λ e. rw e p)
+
+greater-real : (a b : ℤ) → isReal a ≡ true → isReal b ≡ true → isReal (greater a b) ≡ true
+greater-real a b p q = by-test (ltZ a b) (λ e. rw e q) (λ e. rw e p)
+
+corner-reals : (c : Corner) → cornerReal c ≡ true → (isReal (c .x) ≡ true) × (isReal (c .y) ≡ true)
+corner-reals c t =
+    let a = split (isRealNumber (c .x)) _ t in
+    (number-real (c .x) (a .0), number-real (c .y) (a .1))
+
+-- a spacing is a whole number of units
+spacing-some : (s : ℕ) → Ranged billion (9999 * billion) billion s → 1 ≤ s
+spacing-some s r = omega (arith, r .least)
+
+spacing-whole : (s : ℕ) → Ranged billion (9999 * billion) billion s → s % 10 ^ 3 ≡ 0
+spacing-whole s r = omega (arith, r .step)
+
+-- the y of a row
+abbrev pub yOfRow : Header → ℕ → ℤ
+yOfRow h r = (latticeOf (south h) (north h) (h .ystep) .first +ℤ pos r) *ℤ pos (h .ystep)
+
+module _ (h : Header) (obeys : headerObeys h ≡ true) where
+  facts : Heading h
+  facts = header-facts h obeys
+
+  record Corners : Type 0 where
+    sw : (isReal (h .sw .x) ≡ true) × (isReal (h .sw .y) ≡ true)
+    nw : (isReal (h .nw .x) ≡ true) × (isReal (h .nw .y) ≡ true)
+    ne : (isReal (h .ne .x) ≡ true) × (isReal (h .ne .y) ≡ true)
+    se : (isReal (h .se .x) ≡ true) × (isReal (h .se .y) ≡ true)
+
+  corners : Corners
+  corners =
+      let a = split (cornerReal (h .sw)) _ (facts .reals) in
+      let b = split (cornerReal (h .nw)) _ (a .1) in
+      let c = split (cornerReal (h .ne)) _ (b .1) in
+      let d = split (cornerReal (h .se)) _ (c .1) in
+      record {
+        sw = corner-reals (h .sw) (a .0);
+        nw = corner-reals (h .nw) (b .0);
+        ne = corner-reals (h .ne) (c .0);
+        se = corner-reals (h .se) (d .0);
+      }
+
+  west-real : isReal (west h) ≡ true
+  west-real =
+      lesser-real (lesser (h .sw .x) (h .nw .x)) (lesser (h .ne .x) (h .se .x))
+      (lesser-real (h .sw .x) (h .nw .x) (corners .sw .0) (corners .nw .0))
+      (lesser-real (h .ne .x) (h .se .x) (corners .ne .0) (corners .se .0))
+
+  east-real : isReal (east h) ≡ true
+  east-real =
+      greater-real (greater (h .sw .x) (h .nw .x)) (greater (h .ne .x) (h .se .x))
+      (greater-real (h .sw .x) (h .nw .x) (corners .sw .0) (corners .nw .0))
+      (greater-real (h .ne .x) (h .se .x) (corners .ne .0) (corners .se .0))
+
+  south-real : isReal (south h) ≡ true
+  south-real =
+      lesser-real (lesser (h .sw .y) (h .nw .y)) (lesser (h .ne .y) (h .se .y))
+      (lesser-real (h .sw .y) (h .nw .y) (corners .sw .1) (corners .nw .1))
+      (lesser-real (h .ne .y) (h .se .y) (corners .ne .1) (corners .se .1))
+
+  north-real : isReal (north h) ≡ true
+  north-real =
+      greater-real (greater (h .sw .y) (h .nw .y)) (greater (h .ne .y) (h .se .y))
+      (greater-real (h .sw .y) (h .nw .y) (corners .sw .1) (corners .nw .1))
+      (greater-real (h .ne .y) (h .se .y) (corners .ne .1) (corners .se .1))
+
+  -- ---- places
+
+  -- the x of a column
+  pub x-stands : (c : ℕ) → c < columnsOf h → placeOf (latticeOf (west h) (east h) (h .xstep)) (h .xstep) (xSent h c) ≡ On c
+  x-stands c here =
+      place-stands (west h) (east h) (h .xstep) west-real east-real (spacing-some (h .xstep) (facts .xstep)) c here
+
+  pub x-fits : (c : ℕ) → c < columnsOf h → realFits 15 24 (xSent h c) ≡ true
+  x-fits c here =
+      place-fits (west h) (east h) (h .xstep) west-real east-real (spacing-some (h .xstep) (facts .xstep)) c here
+      (spacing-whole (h .xstep) (facts .xstep))
+
+  pub y-stands : (r : ℕ) → r < rowsOf h → placeOf (latticeOf (south h) (north h) (h .ystep)) (h .ystep) (yOfRow h r) ≡ On r
+  y-stands r here =
+      place-stands (south h) (north h) (h .ystep) south-real north-real (spacing-some (h .ystep) (facts .ystep)) r here
+
+  pub y-fits : (r : ℕ) → r < rowsOf h → realFits 15 24 (yOfRow h r) ≡ true
+  y-fits r here =
+      place-fits (south h) (north h) (h .ystep) south-real north-real (spacing-some (h .ystep) (facts .ystep)) r here
+      (spacing-whole (h .ystep) (facts .ystep))
+
+  -- the y of a column's profile, where its southern post stands
+  module _ (grid : List ℤ) (room : cellsOf h ≤ length grid) (c : ℕ) (here : c < columnsOf h) where
+    first-row-stands : firstRow (columnCells h grid c) < rowsOf h
+    first-row-stands =
+        let column = columnCells h grid c in
+        let long = column-length h grid room c here in
+        let some : 1 ≤ length column = omega (arith, long, facts .rows) in
+        omega (arith, long, some-cells column, cells-room column some)
+
+    pub y-sent-stands : placeOf (latticeOf (south h) (north h) (h .ystep)) (h .ystep) (ySent h grid c)
+        ≡ On (firstRow (columnCells h grid c))
+    y-sent-stands = y-stands (firstRow (columnCells h grid c)) first-row-stands
+
+    pub y-sent-fits : realFits 15 24 (ySent h grid c) ≡ true
+    y-sent-fits = y-fits (firstRow (columnCells h grid c)) first-row-stands
+
+-- ---- extremes
+
+-- no cell that can be sent lies farther from zero than 32767 spacings
+quotient-most : (z : ℕ) (cell : ℤ) → quotientFits z cell ≡ true → natAbs cell / z ≤ 32767
+quotient-most z (pos n) t = leb-true (n / z) 32767 t
+quotient-most z (negsuc n) t = omega (arith, leb-true (suc n / z) 32766 t)
+
+cell-small : (z : ℕ) (cell : ℤ) → z ≤ 100 → canSend z cell ≡ true → sameZ cell void ≡ false → natAbs cell ≤ 3276700
+unfolding canSend
+cell-small z cell most t filled =
+    let n = natAbs cell in
+    let u : (eqb (n % z) 0 and quotientFits z cell) ≡ true = rw filled at t in
+    let even = eqb-true (n % z) 0 (and-first (eqb (n % z) 0) (quotientFits z cell) u) in
+    let quotient = quotient-most z cell (and-second (eqb (n % z) 0) (quotientFits z cell) u) in
+    let size : n / z * z ≤ 32767 * 100 = mul-le-mul quotient most in
+    omega (arith, size, even, div-add-mod' n z)
+
+abbrev Small : List ℤ → Type 0
+Small cells = (i : ℕ) → i < length cells → natAbs (getD cells i void) ≤ 3276700
+
+lesser-small : (a b : ℤ) → natAbs a ≤ 3276700 → natAbs b ≤ 3276700 → natAbs (lesser a b) ≤ 3276700
+lesser-small a b p q = by-test (ltZ b a) (λ e. rw e q) (λ e. rw e p)
+
+greater-small : (a b : ℤ) → natAbs a ≤ 3276700 → natAbs b ≤ 3276700 → natAbs (greater a b) ≤ 3276700
+greater-small a b p q = by-test (ltZ a b) (λ e. rw e q) (λ e. rw e p)
+
+least-small : (cells : List ℤ) → Small cells → natAbs (leastOf cells) ≤ 3276700
+least-small [] s = omega arith
+least-small (c ∷ []) s = s 0 (omega arith)
+least-small (c ∷ (d ∷ cs)) s =
+    lesser-small c (leastOf (d ∷ cs)) (s 0 (omega arith)) (least-small (d ∷ cs) (λ i k. s (suc i) (omega (arith, k))))
+
+greatest-small : (cells : List ℤ) → Small cells → natAbs (greatestOf cells) ≤ 3276700
+greatest-small [] s = omega arith
+greatest-small (c ∷ []) s = s 0 (omega arith)
+greatest-small (c ∷ (d ∷ cs)) s =
+    greater-small c (greatestOf (d ∷ cs)) (s 0 (omega arith)) (greatest-small (d ∷ cs) (λ i k. s (suc i) (omega (arith, k))))
+
+hundredths-fit : (v : ℤ) → natAbs v ≤ 3276700 → realFits 15 24 (v *ℤ pos 10000000) ≡ true
+hundredths-fit v small =
+    let size = size-multiple v 10000000 in
+    thousands-fit (v *ℤ pos 10000000) (omega (arith, size, small)) (omega (arith, size))
+
+module _ (z : ℕ) (most : z ≤ 100) where
+  filled-small : (cells : List ℤ) → EachSends z cells → Small (filledOnly cells)
+  filled-small [] f = λ i k. absurd (omega (arith, k))
+  filled-small (c ∷ cs) f =
+      let rest = filled-small cs (λ j k. f (suc j) (omega (arith, k))) in
+      by-test (sameZ c void) (λ e. rw e rest) (λ e. rw e (one (cell-small z c most (f 0 (omega arith)) e) rest))
+    where
+      one : natAbs c ≤ 3276700 → Small (filledOnly cs) → Small (c ∷ filledOnly cs)
+      one first rest zero k = first
+      one first rest (suc i) k = rest i (omega (arith, k))
+
+  -- the extremes of cells that can all be sent
+  pub least-fits : (cells : List ℤ) → sendable z cells ≡ length cells → realFits 15 24 (leastStated cells) ≡ true
+  least-fits cells all =
+      hundredths-fit (leastOf (filledOnly cells))
+      (least-small (filledOnly cells) (filled-small cells (each-sends z cells all)))
+
+  pub greatest-fits : (cells : List ℤ) → sendable z cells ≡ length cells → realFits 15 24 (greatestStated cells) ≡ true
+  greatest-fits cells all =
+      hundredths-fit (greatestOf (filledOnly cells))
+      (greatest-small (filledOnly cells) (filled-small cells (each-sends z cells all)))

@@ -1,0 +1,63 @@
+-- Document 01, "Writing": what the writer refuses, in its order, and what it sends.
+use mathlib.Core.Bool.{Bool, true, false, cond, not}
+use mathlib.Core.List.{List, map}
+use Prim.Native.Nat.{ℕ}
+use lib.IntN.{ℤ}
+use lib.Dec.{leb, ltb, eqb}
+use lib.ListN.{length}
+use Rattle.sheet.specs.RecordA.{recordA, headerOf}
+use Rattle.sheet.specs.declared.record_a.Checked.{Checked}
+use Rattle.sheet.specs.declared.record_a.Checked.the-variants.{Sheet, Refused as NoSheet}
+use Rattle.sheet.specs.declared.record_a.Header.{Header}
+use Rattle.load.specs.Deliver.{cellsOf, zOf}
+use Rattle.meaning.specs.Text.{below, joined}
+use Rattle.written.specs.Cells.{sendable, blockCount}
+use Rattle.written.specs.Blocks.{sheetCells, blockSent}
+
+-- "Kinds in order, each with one number"; kind 0 where nothing is refused
+pub record Fault : Type 0 where
+  pub kind : ℕ
+  pub number : ℕ
+
+abbrev pub fault : ℕ → ℕ → Fault
+fault kind number = record { kind = kind; number = number }
+
+-- "12 (0), 13 first cell .. (cell)"
+abbrev pub gridFault : Header → List ℤ → Fault
+gridFault h grid =
+    cond (ltb (length grid) (cellsOf h)) (fault 12 0)
+    (cond (ltb (sendable (zOf h) (sheetCells h grid)) (cellsOf h)) (fault 13 (sendable (zOf h) (sheetCells h grid))) (fault 0 0))
+
+abbrev pub checkedFault : Checked → List ℤ → Fault
+checkedFault (NoSheet kind byte) grid = fault kind byte
+checkedFault (Sheet h) grid = gridFault h grid
+
+-- "1 template length (number 1), 5-10 template (byte)", then the grid
+unfoldable pub sheetFault : List ℕ → List ℤ → Fault
+sheetFault template grid = cond (eqb (length template) 1024) (checkedFault (recordA template) grid) (fault 1 1)
+
+-- "14 number not below the sheet's block count (that count)"
+abbrev pub numberFault : List ℕ → List ℤ → ℕ → Fault
+numberFault template grid number =
+    cond (leb (blockCount (headerOf template) grid) number) (fault 14 (blockCount (headerOf template) grid)) (fault 0 0)
+
+abbrev pub first : Fault → Fault → Fault
+first a b = cond (eqb (a .kind) 0) b a
+
+-- one block, into a lent block of so many bytes: "1 lent block length (number 0)" comes first
+unfoldable pub blockFault : List ℕ → List ℤ → ℕ → ℕ → Fault
+blockFault template grid number bytes =
+    cond (eqb bytes 1024) (first (sheetFault template grid) (numberFault template grid number)) (fault 1 0)
+
+-- what the lent block holds afterwards
+abbrev pub blockAfter : List ℕ → List ℤ → ℕ → List ℕ → List ℕ
+blockAfter template grid number block =
+    cond (eqb (blockFault template grid number (length block) .kind) 0) (blockSent template (headerOf template) grid number) block
+
+-- how many blocks a template and grid have; 0 where they are refused
+unfoldable pub countOf : List ℕ → List ℤ → ℕ
+countOf template grid = cond (eqb (sheetFault template grid .kind) 0) (blockCount (headerOf template) grid) 0
+
+-- the blocks of a sheet up to a number, joined
+abbrev pub sentText : List ℕ → List ℤ → ℕ → List ℕ
+sentText template grid n = joined (map (blockSent template (headerOf template) grid) (below n))

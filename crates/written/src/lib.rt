@@ -1,0 +1,1 @@
+// No code: what the blocks of a sheet say when it is written. Definitions for the writer and for reading back.
