@@ -1,0 +1,184 @@
+-- The cells that a block of a profile sends are a stretch of the grid, lent as they stand.
+use mathlib.Core.Bool.{true}
+use mathlib.Core.List.{List, [], _∷_}
+use mathlib.Core.Path.{_≡_, refl, sym, _∙_, ap, ap₂}
+use Prim.Native.Nat.{ℕ, zero, suc, _+_, _*_, _-_, min, _≤_, _<_}
+use native.Mathlib.Nat.{zero-min, min-zero, suc-min-suc, suc-mul, mul-le-mul, mul-le-mul-right}
+use native.Mathlib.Omega.{arith}
+use lib.IntN.{ℤ}
+use lib.ListN.{length, take, drop, length-take, length-drop}
+use lib.Seq.{take-nil, drop-drop, getD-take, getD-drop}
+use Rattle.sheet.specs.RecordA.{columnsOf, rowsOf}
+use Rattle.sheet.specs.declared.record_a.Header.{Header}
+use Rattle.session.specs.Session.{headerObeys}
+use Rattle.session.proofs.Facts.{Heading, header-facts}
+use Rattle.load.specs.Posts.{void}
+use Rattle.load.specs.Deliver.{zOf}
+use Rattle.meaning.specs.Rules.{leastStated, greatestStated}
+use Rattle.written.specs.Blocks.{xSent, ySent, profileBlock}
+use Rattle.written.specs.Cells.{canSend, sendable, columnCells, cellsSent}
+use Rattle.written.proofs.ColumnsSent.{each-sends, all-send, sendable-sent}
+use Rattle.written.proofs.SheetSent.{column-length, column-sendable}
+use Rattle.send.specs.BlockSteps.{yOfRow}
+use Rattle.send.specs.ProfileSteps.{firstBy, furtherBy}
+use Rattle.send.specs.ScanSteps.{Sizes}
+use Rattle.send.specs.SendSteps.{SendableSheet, ProfileAsked}
+use Rattle.send.proofs.Columns.{drop-take, profile-place, profile-within, profile-some}
+use Rattle.send.proofs.ProfileLaws.{first-sent, further-sent}
+
+-- ---- a stretch of a stretch
+
+take-both : (m n : ℕ) (l : List ℤ) → take m (take n l) ≡ take (min m n) l
+take-both zero n l = rw (zero-min n)
+take-both (suc m) zero l = rw (min-zero (suc m))
+take-both (suc m) (suc n) [] = sym (take-nil (min (suc m) (suc n)))
+take-both (suc m) (suc n) (x ∷ l) = rw (suc-min-suc m n) (ap (λ (t : List ℤ). x ∷ t) (take-both m n l))
+
+part-of : (l : List ℤ) (from long skip most n : ℕ) → n ≡ min most (long - skip)
+    → take most (drop skip (take long (drop from l))) ≡ take n (drop (from + skip) l)
+part-of l from long skip most n e =
+    ap (take most) (drop-take skip long (drop from l))
+    ∙ take-both most (long - skip) (drop skip (drop from l))
+    ∙ ap₂ take (sym e) (drop-drop skip from l)
+
+-- of cells that can all be sent, so can those of a stretch
+part-sends : (z : ℕ) (cells : List ℤ) (skip most : ℕ) → sendable z cells ≡ length cells
+    → sendable z (take most (drop skip cells)) ≡ length (take most (drop skip cells))
+part-sends z cells skip most all =
+    all-send z (take most (drop skip cells))
+    (λ i k.
+    let m = length-take most (drop skip cells) in
+    let d = length-drop skip cells in
+    ap (canSend z) (getD-take most (drop skip cells) i void (omega (arith, k, m)) ∙ getD-drop skip cells i void)
+    ∙ each-sends z cells all (skip + i) (omega (arith, k, m, d)))
+
+-- ---- the sizes of a sheet
+
+module _ (h : Header) (obeys : headerObeys h ≡ true) where
+  facts : Heading h
+  facts = header-facts h obeys
+
+  pub z-range : (1 ≤ zOf h) × (zOf h ≤ 100)
+  z-range = (facts .zstep .least, facts .zstep .greatest)
+
+  pub columns-most : columnsOf h ≤ 2048
+  columns-most = facts .columns .1
+
+  pub rows-most : rowsOf h ≤ 2048
+  rows-most = facts .rows .1
+
+  pub rows-least : 1 ≤ rowsOf h
+  rows-least = facts .rows .0
+
+  -- as the code multiplies them
+  pub cells-most : (columns rows : ℕ) → columns ≡ columnsOf h → rows ≡ rowsOf h → columns * rows ≤ 4194304
+  cells-most columns rows e f =
+      let x : columns ≤ 2048 = omega (arith, e, columns-most) in
+      let y : rows ≤ 2048 = omega (arith, f, rows-most) in
+      omega (arith, mul-le-mul x y)
+
+pub sizes : {h : Header} {grid : List ℤ} → SendableSheet h grid → Sizes (columnsOf h) (rowsOf h) grid
+sizes {h} s =
+    record {
+      columns-most = columns-most h (s .obeys);
+      rows-most = rows-most h (s .obeys);
+      rows-least = rows-least h (s .obeys);
+      cells-there = s .room;
+    }
+
+-- ---- a profile in the grid
+
+module _ {h : Header} {grid : List ℤ} {column row posts k : ℕ} {block : List ℕ} (a : ProfileAsked h grid column row posts k block) where
+  abbrev cells : List ℤ
+  cells = columnCells h grid column
+
+  abbrev sent : List ℤ
+  sent = cellsSent h grid column
+
+  abbrev from : ℕ
+  from = column * rowsOf h + row
+
+  long : length cells ≡ rowsOf h
+  long = column-length h grid (a .sheet .room) column (a .inside)
+
+  some : 1 ≤ length cells
+  some = omega (arith, long, rows-least h (a .sheet .obeys))
+
+  pub row-posts : row + posts ≤ rowsOf h
+  row-posts = omega (arith, profile-within cells some, long, a .row-is, a .posts-are)
+
+  pub posts-some : 1 ≤ posts
+  posts-some = omega (arith, profile-some cells, a .posts-are)
+
+  pub row-below : row < rowsOf h
+  row-below = omega (arith, row-posts, posts-some)
+
+  pub posts-most : posts ≤ 2048
+  posts-most = omega (arith, row-posts, rows-most h (a .sheet .obeys))
+
+  pub column-most : column < 2048
+  column-most = omega (arith, a .inside, columns-most h (a .sheet .obeys))
+
+  pub posts-room : from + posts ≤ length grid
+  posts-room =
+      omega (arith, mul-le-mul-right (rowsOf h) (a .inside), suc-mul column (rowsOf h), a .sheet .room, row-posts)
+
+  pub from-most : from + posts ≤ 4194304
+  from-most =
+      omega
+      (arith, mul-le-mul-right (rowsOf h) (a .inside), suc-mul column (rowsOf h), cells-most h (a .sheet .obeys) (columnsOf h) (rowsOf h) refl refl, row-posts)
+
+  pub cells-place : sent ≡ take posts (drop from grid)
+  cells-place =
+      profile-place cells some
+      ∙ ap₂ (λ (n r : ℕ). take n (drop r cells)) (sym (a .posts-are)) (sym (a .row-is))
+      ∙ part-of grid (column * rowsOf h) (rowsOf h) row posts posts (omega (arith, row-posts))
+
+  pub profile-sends : sendable (zOf h) sent ≡ length sent
+  profile-sends =
+      sendable-sent (zOf h) cells some
+      (column-sendable h grid (a .sheet .room) (zOf h) (a .sheet .all) column (a .inside) ∙ sym long)
+
+  -- the code lends its cells by where they start, r, and how many they are
+  pub all-cells : (r : ℕ) → r ≡ from → take (r + posts - r) (drop r grid) ≡ sent
+  all-cells r e =
+      let n : r + posts - r ≡ posts = omega arith in
+      ap₂ (λ (m i : ℕ). take m (drop i grid)) n e ∙ sym cells-place
+
+  -- those of a block: from a post on, as many as it has room for
+  module _ (skip most r n : ℕ) (e : r ≡ from + skip) (f : n ≡ min most (posts - skip)) where
+    abbrev lent : List ℤ
+    lent = take (r + n - r) (drop r grid)
+
+    pub lent-cells : lent ≡ take most (drop skip sent)
+    lent-cells =
+        let m : r + n - r ≡ n = omega arith in
+        ap₂ (λ (j i : ℕ). take j (drop i grid)) m e
+        ∙ sym (ap (λ (l : List ℤ). take most (drop skip l)) cells-place ∙ part-of grid from posts skip most n f)
+
+    pub lent-sends : sendable (zOf h) lent ≡ length lent
+    lent-sends = rw lent-cells (part-sends (zOf h) sent skip most profile-sends)
+
+    pub lent-most : length lent ≤ most
+    lent-most = omega (arith, length-take (r + n - r) (drop r grid), f)
+
+    pub lent-room : skip ≤ posts → r + n ≤ length grid
+    lent-room k = omega (arith, k, posts-room, e, f)
+
+  -- ---- the block that is written of them
+
+  pub opening-block : {number : ℕ} {x y least greatest : ℤ} {z : ℕ} {front : List ℤ}
+      → number ≡ suc column → x ≡ xSent h column → y ≡ yOfRow h row → least ≡ leastStated sent → greatest ≡ greatestStated sent
+      → z ≡ zOf h → front ≡ take 146 sent → firstBy number posts x y least greatest z front ≡ profileBlock h grid column 0
+  opening-block {y} en ex ey el eg ez ef =
+      let y-is : y ≡ ySent h grid column = ey ∙ ap (yOfRow h) (a .row-is) in
+      (λ i. firstBy (en i) (a .posts-are i) (ex i) (y-is i) (el i) (eg i) (ez i) (ef i)) ∙ first-sent h grid column
+
+  pub further-block : {z : ℕ} {front : List ℤ} (i : ℕ) → k ≡ suc i → z ≡ zOf h → front ≡ take 170 (drop (146 + 170 * i) sent)
+      → furtherBy z front ≡ profileBlock h grid column k
+  further-block i ek ez ef =
+      ap₂ furtherBy ez ef ∙ further-sent h grid column i ∙ ap (profileBlock h grid column) (sym ek)
+
+  -- a further block is not past the profile's posts
+  pub skip-inside : (k ≡ 0 → ⊥) → 146 + 170 * (k - 1) < posts
+  skip-inside n = omega (arith, a .within, n)

@@ -1,0 +1,77 @@
+-- Extremes of the filled cells, one cell before those looked at; each stays as small as a cell.
+use Prim.Native.Nat.{ℕ, _+_, _*_, _≤_, _<_}
+use mathlib.Core.Bool.{Bool, true, false, cond, not}
+use mathlib.Core.List.{List, [], _∷_}
+use mathlib.Core.Path.{_≡_, refl, sym, _∙_, ap}
+use native.Mathlib.Omega.{arith}
+use lib.IntN.{ℤ, pos, natAbs, _*ℤ_}
+use lib.ListN.{length, drop, getD}
+use lib.Seq.{drop-length}
+use lib.Signed.{ltZ}
+use mir.Facts.{toZ-ofZ}
+use mir.Syntax.{w64}
+use mir.Val.{SFits, toZ, ofZ}
+use Rattle.laws.proofs.Integers.{size-multiple, size-fits}
+use Rattle.number.proofs.GrammarParts.{by-test}
+use Rattle.sheet.specs.RecordA.{lesser, greater}
+use Rattle.load.specs.Posts.{void, sameZ}
+use Rattle.meaning.specs.Rules.{filledOnly, leastOf, greatestOf}
+use Rattle.written.specs.Cells.{isNone}
+use Rattle.send.specs.declared.scan.Running.{Running}
+use Rattle.send.specs.ScanSteps.{noCell, withCell, running}
+use Rattle.send.proofs.Columns.{drop-cell}
+
+-- a filled cell before filled ones
+before : (cell : ℤ) (fs : List ℤ)
+    → _≡_ {A = Running}
+    (cond (not (isNone fs)) (record { some = true; low = lesser cell (leastOf fs); high = greater cell (greatestOf fs) })
+    (record { some = true; low = cell; high = cell }))
+    (record { some = true; low = leastOf (cell ∷ fs); high = greatestOf (cell ∷ fs) })
+before cell [] = refl
+before cell (f ∷ fs) = refl
+
+with-running : (cell : ℤ) (cells : List ℤ) → withCell cell (running cells) ≡ running (cell ∷ cells)
+with-running cell cells =
+    by-test (sameZ cell void) (λ e. rw e) (λ e. rw e (before cell (filledOnly cells)))
+
+pub running-turn : (cells : List ℤ) (i : ℕ) → i < length cells → (t : Running) → t ≡ running (drop (i + 1) cells)
+    → withCell (getD cells i (pos 0)) t ≡ running (drop i cells)
+running-turn cells i h t e =
+    ap (withCell (getD cells i (pos 0))) e
+    ∙ with-running (getD cells i (pos 0)) (drop (i + 1) cells)
+    ∙ ap running (sym (drop-cell cells i h))
+
+pub running-start : (cells : List ℤ) → noCell ≡ running (drop (length cells) cells)
+running-start cells = ap running (sym (drop-length cells))
+
+-- ---- sizes
+
+abbrev pub Small : Running → Type 0
+Small t = (natAbs (t .low) ≤ 2147483648) × (natAbs (t .high) ≤ 2147483648)
+
+pub none-small : Small noCell
+none-small = (omega arith, omega arith)
+
+picked-small : (b : Bool) (x y : ℤ) → natAbs x ≤ 2147483648 → natAbs y ≤ 2147483648 → natAbs (cond b x y) ≤ 2147483648
+picked-small true x y h k = h
+picked-small false x y h k = k
+
+pub with-small : (cell : ℤ) (t : Running) → natAbs cell ≤ 2147483648 → Small t → Small (withCell cell t)
+with-small cell t k s = go (sameZ cell void) refl (t .some) refl
+  where
+    go : (b : Bool) → sameZ cell void ≡ b → (d : Bool) → t .some ≡ d → Small (withCell cell t)
+    go true e d f = rw e s
+    go false e true f =
+        rw (e, f) (picked-small (ltZ (t .low) cell) (t .low) cell (s .0) k, picked-small (ltZ cell (t .high)) (t .high) cell (s .1) k)
+    go false e false f = rw (e, f) (k, k)
+
+-- hundredths as billionths, of any cell, as the machine has them
+module _ (v : ℤ) (k : natAbs v ≤ 2147483648) where
+  back : toZ w64 (ofZ w64 v) ≡ v
+  back = toZ-ofZ (size-fits v (omega arith))
+
+  pub stated-fits : SFits w64 (toZ w64 (ofZ w64 v) *ℤ pos 10000000)
+  stated-fits = rw back (size-fits (v *ℤ pos 10000000) (omega (arith, size-multiple v 10000000)))
+
+  pub stated-is : toZ w64 (ofZ w64 (toZ w64 (ofZ w64 v) *ℤ pos 10000000)) ≡ v *ℤ pos 10000000
+  stated-is = toZ-ofZ stated-fits ∙ ap (λ (x : ℤ). x *ℤ pos 10000000) back

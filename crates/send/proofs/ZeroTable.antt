@@ -1,0 +1,160 @@
+-- The table of block 0 as the code walks it: each stretch begins where the one before it ends, and suits the piece that is written there.
+use mathlib.Core.Bool.{Bool, true, false}
+use mathlib.Core.List.{List, [], _∷_, map}
+use mathlib.Core.Path.{_≡_, refl, sym, _∙_, ap}
+use Prim.Native.Nat.{ℕ, zero, suc, _+_, _-_, _≤_, _<_}
+use native.Mathlib.Nat.{le-of-suc-le-suc, not-suc-le-zero}
+use native.Mathlib.Numerals.{add-one}
+use native.Mathlib.Omega.{arith}
+use borrow.Rule.Slice.PartMut.{putMid}
+use mir.Facts.{toZ-ofZ}
+use mir.Syntax.{w64}
+use mir.Val.{SFits, toZ, ofZ}
+use lib.Dec.{T, leb, eqb, leb→le, eqb→eq}
+use lib.IntN.{ℤ, pos}
+use lib.ListN.{length, take, drop, getD, length-drop}
+use lib.Seq.{length-take-le}
+use Rattle.laws.specs.Sign.{_and_}
+use Rattle.laws.proofs.Tables.{all-at, and-left, and-right}
+use Rattle.sheet.specs.declared.record_a.Header.{Header}
+use Rattle.spell.specs.Spell.{integerFits, realFits}
+use Rattle.spell.proofs.Fits.{integer-length, real-length}
+use Rattle.written.specs.Blocks.{Piece, pieceText}
+use Rattle.written.specs.Blocks.Piece.{keeps, whole, real, spacing}
+use Rattle.send.specs.ZeroSteps.{piecesBy, Stretch, stretches, blockEnd, stretchAt, numberIn, textBy, within, pieceBy}
+
+-- ---- the columns
+
+in-column : (f : Stretch → ℕ) (l : List Stretch) (i : ℕ) → i < length l → getD (map f l) i 0 ≡ f (getD l i blockEnd)
+in-column f [] i h = absurd (not-suc-le-zero h)
+in-column f (s ∷ l) zero h = refl
+in-column f (s ∷ l) (suc i) h = in-column f l i (le-of-suc-le-suc h)
+
+pub column : (f : Stretch → ℕ) (i : ℕ) → i < 27 → getD (map f stretches) i 0 ≡ f (stretchAt i)
+unfolding stretches
+column f i h = in-column f stretches i h
+
+-- ---- the stretches fill the block
+
+inside : Stretch → Bool
+inside s = leb (s .start + s .width) 1024
+
+pub stretch-inside : (i : ℕ) → i < 27 → stretchAt i .start + stretchAt i .width ≤ 1024
+unfolding stretches inside
+stretch-inside i h = leb→le _ 1024 (all-at inside stretches blockEnd tt i h)
+
+abbrev chained : ℕ → List Stretch → Bool
+chained at [] = eqb at 1024
+chained at (s ∷ l) = eqb (s .start) at and chained (at + s .width) l
+
+begins : (at : ℕ) (l : List Stretch) → T (chained at l) → getD l 0 blockEnd .start ≡ at
+begins at [] t = sym (eqb→eq at 1024 t)
+begins at (s ∷ l) t = eqb→eq (s .start) at (and-left (eqb (s .start) at) _ t)
+
+goes-on : (at : ℕ) (l : List Stretch) → T (chained at l) → (i : ℕ) → i < length l
+    → getD l (suc i) blockEnd .start ≡ getD l i blockEnd .start + getD l i blockEnd .width
+goes-on at [] t i h = absurd (not-suc-le-zero h)
+goes-on at (s ∷ l) t zero h =
+    begins (at + s .width) l (and-right (eqb (s .start) at) _ t)
+    ∙ ap (λ (n : ℕ). n + s .width) (sym (eqb→eq (s .start) at (and-left (eqb (s .start) at) _ t)))
+goes-on at (s ∷ l) t (suc i) h = goes-on (at + s .width) l (and-right (eqb (s .start) at) _ t) i (le-of-suc-le-suc h)
+
+pub stretch-next : (i : ℕ) → i < 27 → stretchAt (i + 1) .start ≡ stretchAt i .start + stretchAt i .width
+unfolding stretches
+stretch-next i h = rw (add-one i) (goes-on 0 stretches tt i h)
+
+pub first-start : stretchAt 0 .start ≡ 0
+unfolding stretches
+first-start = refl
+
+pub last-end : stretchAt 27 .start ≡ 1024
+unfolding stretches
+last-end = refl
+
+-- ---- each suits its piece
+
+abbrev pub nothing : Piece
+nothing = keeps 1 0
+
+abbrev pub suits : Piece → Stretch → Bool
+suits (keeps first width) s = eqb (s .how) 0 and eqb (s .start) (first - 1) and eqb (s .width) width
+suits (whole n) s = eqb (s .how) 1 and eqb (s .width) 6
+suits (real z) s = eqb (s .how) 2 and eqb (s .width) 24
+suits (spacing v) s = eqb (s .how) 3 and eqb (s .width) 12
+
+abbrev suit : List Piece → List Stretch → Bool
+suit [] l = true
+suit (p ∷ ps) [] = false
+suit (p ∷ ps) (s ∷ l) = suits p s and suit ps l
+
+suit-at : (ps : List Piece) (l : List Stretch) → T (suit ps l) → (i : ℕ) → i < length ps → T (suits (getD ps i nothing) (getD l i blockEnd))
+suit-at [] l t i h = absurd (not-suc-le-zero h)
+suit-at (p ∷ ps) [] t i h = absurd t
+suit-at (p ∷ ps) (s ∷ l) t zero h = and-left (suits p s) (suit ps l) t
+suit-at (p ∷ ps) (s ∷ l) t (suc i) h = suit-at ps l (and-right (suits p s) (suit ps l) t) i (le-of-suc-le-suc h)
+
+module _ (h : Header) (least greatest : ℤ) (columns : ℕ) where
+  pub pieces-many : length (piecesBy h least greatest columns) ≡ 27
+  unfolding piecesBy
+  pieces-many = refl
+
+  pub piece-suits : (i : ℕ) → i < 27 → T (suits (getD (piecesBy h least greatest columns) i nothing) (stretchAt i))
+  unfolding piecesBy stretches
+  piece-suits i b = suit-at (piecesBy h least greatest columns) stretches tt i b
+
+-- ---- the text of a piece that fits its field
+
+abbrev pub fits : Piece → Bool
+fits (keeps first width) = true
+fits (whole n) = integerFits 6 (pos n)
+fits (real z) = realFits 15 24 z
+fits (spacing v) = realFits 6 12 (pos v)
+
+pub text-is : (template field : List ℕ) (p : Piece) (s : Stretch) → T (suits p s) → fits p ≡ true → length field ≡ s .width
+    → textBy (s .how) (numberIn p) (within s template) field ≡ pieceText template p
+unfolding textBy
+text-is template field (keeps first width) s t f l =
+    let rest = and-right (eqb (s .how) 0) _ t in
+    rw (
+      eqb→eq (s .how) 0 (and-left (eqb (s .how) 0) _ t),
+      eqb→eq (s .start) (first - 1) (and-left (eqb (s .start) (first - 1)) _ rest),
+      eqb→eq (s .width) width (and-right (eqb (s .start) (first - 1)) _ rest),
+    )
+text-is template field (whole n) s t f l =
+    let e : length field ≡ 6 = l ∙ eqb→eq (s .width) 6 (and-right (eqb (s .how) 1) _ t) in
+    rw (eqb→eq (s .how) 1 (and-left (eqb (s .how) 1) _ t), e, f)
+text-is template field (real z) s t f l =
+    let e : length field ≡ 24 = l ∙ eqb→eq (s .width) 24 (and-right (eqb (s .how) 2) _ t) in
+    rw (eqb→eq (s .how) 2 (and-left (eqb (s .how) 2) _ t), e, f)
+text-is template field (spacing v) s t f l =
+    let e : length field ≡ 12 = l ∙ eqb→eq (s .width) 12 (and-right (eqb (s .how) 3) _ t) in
+    rw (eqb→eq (s .how) 3 (and-left (eqb (s .how) 3) _ t), e, f)
+
+pub text-length : (template : List ℕ) (p : Piece) (s : Stretch) → T (suits p s) → fits p ≡ true → s .start + s .width ≤ length template
+    → length (pieceText template p) ≡ s .width
+text-length template (keeps first width) s t f room =
+    let rest = and-right (eqb (s .how) 0) _ t in
+    let a = eqb→eq (s .start) (first - 1) (and-left (eqb (s .start) (first - 1)) _ rest) in
+    let w = eqb→eq (s .width) width (and-right (eqb (s .start) (first - 1)) _ rest) in
+    length-take-le width (drop (first - 1) template) (omega (arith, length-drop (first - 1) template)) ∙ sym w
+text-length template (whole n) s t f room =
+    integer-length 6 (pos n) f ∙ sym (eqb→eq (s .width) 6 (and-right (eqb (s .how) 1) _ t))
+text-length template (real z) s t f room =
+    real-length 15 24 z 68 f ∙ sym (eqb→eq (s .width) 24 (and-right (eqb (s .how) 2) _ t))
+text-length template (spacing v) s t f room =
+    real-length 6 12 (pos v) 69 f ∙ sym (eqb→eq (s .width) 12 (and-right (eqb (s .how) 3) _ t))
+
+-- a signed number that fits is read back from its bits
+pub told : (z : ℤ) {number : ℤ} → z ≡ number → SFits w64 z → toZ w64 (ofZ w64 z) ≡ number
+told z e f = toZ-ofZ {w = w64} {z = z} f ∙ e
+
+-- a part of the block written over, said of the stretch that it is
+pub put-is : (template block : List ℕ) (s : Stretch) {value number : ℤ} {first width how : ℕ} {after : List ℕ}
+    → first ≡ s .start → width ≡ s .width → how ≡ s .how → value ≡ number
+    → after ≡ textBy how value (take (first + width - first) (drop first template)) (take (first + width - first) (drop first block))
+    → putMid first (first + width - first) block after ≡ pieceBy template s number block
+put-is template block s {value} {number} {first} {width} {how} {after} p q r v e =
+    let w : first + width - first ≡ s .width = omega arith in
+    let text : after ≡ textBy (s .how) number (within s template) (within s block) =
+    e ∙ (λ j. textBy (r j) (v j) (take (w j) (drop (p j) template)) (take (w j) (drop (p j) block))) in
+    λ j. putMid (p j) (w j) block (text j)

@@ -1,0 +1,31 @@
+-- Where the columns' blocks end.
+use mathlib.Core.Path.{_∙_, ap₂}
+use Prim.Native.Nat.{ℕ}
+use Rattle.sheet.specs.RecordA.{columnsOf}
+use Rattle.send.specs.ScanSteps.{startAt}
+use Rattle.send.proofs.BlockCells.{sizes}
+use Rattle.send.proofs.ScanLaws.{start-sent}
+use Rattle.send.proofs.one_block.count_of.Statement.{statement}
+use Rattle.send.proofs.one_block.count_of.Tie as tie
+
+columns-of-requires : tie.Need-columns-of-requires
+columns-of-requires c κs = c .pre .obeys
+
+rows-of-requires : tie.Need-rows-of-requires
+rows-of-requires c κs = c .before .pre .obeys
+
+count-blocks-requires : tie.Need-count-blocks-requires
+count-blocks-requires c κs =
+    rw (c .before .columns-of .ensures, c .rows-of .ensures) (sizes (c .before .before .pre))
+
+returns : tie.Need-returns
+returns c =
+    let r = c .before in
+    let a = r .before .before .args in
+    c .count-blocks .ensures
+    ∙ ap₂ (λ (rows n : ℕ). startAt rows (a .grid .now) n) (r .rows-of .ensures) (r .before .columns-of .ensures)
+    ∙ start-sent (a .h) (a .grid .now) (columnsOf (a .h))
+
+pub count-of-spec : {M : Type 1} → statement M
+count-of-spec =
+    tie.close (tie.spec columns-of-requires rows-of-requires count-blocks-requires returns)

@@ -1,0 +1,118 @@
+-- The extremes of all the sheet's cells go into the template: ZeroLaws has the block.
+use mathlib.Core.List.{List}
+use mathlib.Core.Path.{_≡_, sym, _∙_, ap, ap₂}
+use Prim.Native.Nat.{ℕ, _*_, _-_, _≤_}
+use native.Mathlib.Omega.{arith}
+use borrow.Author.Needs.{needs}
+use lib.IntN.{ℤ}
+use lib.ListN.{length, take}
+use Rattle.load.specs.Deliver.{cellsOf, zOf}
+use Rattle.meaning.specs.Rules.{leastStated, greatestStated}
+use Rattle.written.specs.Blocks.{sheetCells}
+use Rattle.written.specs.Cells.{sendable}
+use Rattle.written.proofs.PlacesSent.{least-fits, greatest-fits}
+use Rattle.written.proofs.SheetSent.{sheet-length}
+use Rattle.send.specs.ZeroSteps.{zeroBy}
+use Rattle.send.proofs.BlockCells.{cells-most, columns-most, z-range}
+use Rattle.send.proofs.BlockPlaces.{back-is, back-fits}
+use Rattle.send.proofs.ZeroLaws.{zero-sent}
+use Rattle.send.proofs.one_block.write_block_zero.Statement.{statement}
+use Rattle.send.proofs.one_block.write_block_zero.Tie as tie
+
+columns-of-requires : tie.Need-columns-of-requires
+columns-of-requires c κs = c .before .before .pre .sheet .obeys
+
+rows-of-requires : tie.Need-rows-of-requires
+rows-of-requires c κs = c .before .before .before .pre .sheet .obeys
+
+abbrev start : tie.After-rows-of → tie.Start
+start c = c .before .before .before .before
+
+many : (c : tie.After-rows-of) → c .before .columns-of .result * c .rows-of .result ≡ cellsOf (start c .args .h)
+many c = ap₂ _*_ (c .before .columns-of .ensures) (c .rows-of .ensures)
+
+mul-cells : tie.Need-mul-cells
+mul-cells c =
+    omega
+    (arith, cells-most (start c .args .h) (start c .pre .sheet .obeys) (c .before .columns-of .result) (c .rows-of .result) (c .before .columns-of .ensures) (c .rows-of .ensures))
+
+sub-extremes-of : tie.Need-sub-extremes-of
+sub-extremes-of c = search needs
+
+part-extremes-of-start : tie.Need-part-extremes-of-start
+part-extremes-of-start c = search needs
+
+part-extremes-of-end : tie.Need-part-extremes-of-end
+part-extremes-of-end c = omega (arith, many c, start c .pre .sheet .room)
+
+extremes-of-requires : tie.Need-extremes-of-requires
+extremes-of-requires c κs = search needs
+
+-- ---- the extremes
+
+abbrev start-2 : tie.After-extremes-of → tie.Start
+start-2 c = start (c .before .before)
+
+abbrev cells : tie.After-extremes-of → List ℤ
+cells c = sheetCells (start-2 c .args .h) (start-2 c .args .grid .now)
+
+all : (c : tie.After-extremes-of) → sendable (zOf (start-2 c .args .h)) (cells c) ≡ length (cells c)
+all c =
+    let s = start-2 c in
+    s .pre .sheet .all ∙ sym (sheet-length (s .args .h) (s .args .grid .now) (s .pre .sheet .room))
+
+z-most : (c : tie.After-extremes-of) → zOf (start-2 c .args .h) ≤ 100
+z-most c = z-range (start-2 c .args .h) (start-2 c .pre .sheet .obeys) .1
+
+lent : (c : tie.After-extremes-of)
+    → take (c .before .before .before .columns-of .result * c .before .before .rows-of .result - 0) (start-2 c .args .grid .now) ≡ cells c
+lent c =
+    let r = c .before .before in
+    let n : r .before .columns-of .result * r .rows-of .result - 0 ≡ cellsOf (start r .args .h) = omega (arith, many r) in
+    ap (λ (k : ℕ). take k (start r .args .grid .now)) n
+
+least-is : (c : tie.After-extremes-of) → c .extremes-of .result .least ≡ leastStated (cells c)
+least-is c = c .extremes-of .ensures .0 ∙ ap leastStated (lent c)
+
+greatest-is : (c : tie.After-extremes-of) → c .extremes-of .result .greatest ≡ greatestStated (cells c)
+greatest-is c = c .extremes-of .ensures .1 ∙ ap greatestStated (lent c)
+
+write-zero-requires : tie.Need-write-zero-requires
+write-zero-requires c κs =
+    let e = c .before .before .before in
+    let s = start-2 e in
+    let columns = e .before .before .before .columns-of in
+    let z = zOf (s .args .h) in
+    let least = back-fits (leastStated (cells e)) (least-is e) (least-fits z (z-most e) (cells e) (all e)) in
+    let greatest = back-fits (greatestStated (cells e)) (greatest-is e) (greatest-fits z (z-most e) (cells e) (all e)) in
+    let most : columns .result ≤ 2048 = omega (arith, columns .ensures, columns-most (s .args .h) (s .pre .sheet .obeys)) in
+    (s .pre .template-long, (s .pre .long, (s .pre .sheet .obeys, (least, (greatest, most)))))
+
+same-length : tie.Need-same-length
+same-length c = search needs
+
+returns : tie.Need-returns
+returns c =
+    let w = c .before .before in
+    let e = w .before .before .before .before in
+    let a = start-2 e .args in
+    let least = back-is (leastStated (cells e)) (least-is e) (least-fits (zOf (a .h)) (z-most e) (cells e) (all e)) in
+    let greatest = back-is (greatestStated (cells e)) (greatest-is e) (greatest-fits (zOf (a .h)) (z-most e) (cells e) (all e)) in
+    w .write-zero .ensures
+    ∙ (λ i. zeroBy (a .template .now) (a .h) (least i) (greatest i) (e .before .before .before .columns-of .ensures i))
+    ∙ zero-sent (a .template .now) (a .h) (a .grid .now)
+
+pub write-block-zero-spec : {M : Type 1} → statement M
+write-block-zero-spec =
+    tie.close
+    (tie.spec
+    columns-of-requires
+    rows-of-requires
+    mul-cells
+    sub-extremes-of
+    part-extremes-of-start
+    part-extremes-of-end
+    extremes-of-requires
+    write-zero-requires
+    same-length
+    returns)

@@ -1,0 +1,174 @@
+-- The first block is the opening; a further one has the cells behind those sent: BlockCells has the block.
+use mathlib.Core.Path.{_≡_, sym, _∙_, ap}
+use Prim.Native.Nat.{ℕ, suc, _+_, _*_, _-_, min, _≤_, _<_}
+use native.Mathlib.Omega.{arith}
+use borrow.Author.Needs.{needs}
+use lib.ListN.{length}
+use Rattle.sheet.specs.RecordA.{rowsOf}
+use Rattle.written.specs.Blocks.{profileBlock}
+use Rattle.send.proofs.BlockCells.{
+  z-range,
+  row-below,
+  posts-most,
+  from-most,
+  lent-cells,
+  lent-sends,
+  lent-most,
+  lent-room,
+  further-block,
+  skip-inside,
+}
+use Rattle.send.proofs.one_block.write_profile_block.Statement.{statement}
+use Rattle.send.proofs.one_block.write_profile_block.Tie as tie
+
+write-opening-requires : tie.Need-write-opening-requires
+write-opening-requires c κs =
+    let p = c .before .before .before .pre in
+    record {
+      sheet = p .sheet;
+      inside = p .inside;
+      row-is = p .row-is;
+      posts-are = p .posts-are;
+      within = omega arith;
+      long = p .long;
+    }
+
+same-length : tie.Need-same-length
+same-length c = search needs
+
+returns : tie.Need-returns
+returns c =
+    let w = c .before .before in
+    let t = w .before .before in
+    let a = t .before .before .args in
+    w .write-opening .ensures ∙ ap (profileBlock (a .h) (a .grid .now) (a .column)) (sym (t .if1 .taken))
+
+-- ---- a further block
+
+abbrev start : tie.Else1 → tie.Start
+start c = c .before .before
+
+abbrev skip : tie.Else1 → ℕ
+skip c = 146 + 170 * (start c .args .k - 1)
+
+inside : (c : tie.Else1) → skip c < start c .args .posts
+inside c = skip-inside (start c .pre) (c .if1 .left)
+
+sub-skip : tie.Need-sub-skip
+sub-skip c = let n = c .if1 .left in omega (arith, n)
+
+mul-skip : tie.Need-mul-skip
+mul-skip c = omega (arith, inside c, posts-most (start c .pre))
+
+add-skip : tie.Need-add-skip
+add-skip c = omega (arith, inside c, posts-most (start c .pre))
+
+cell-at-requires : tie.Need-cell-at-requires
+cell-at-requires c κs = let p = start c .pre in (p .sheet .obeys, (p .inside, row-below p))
+
+add-from : tie.Need-add-from
+add-from c = omega (arith, inside (c .before), from-most (start (c .before) .pre), c .cell-at .ensures)
+
+sub-no-more : tie.Need-sub-no-more
+sub-no-more c = omega (arith, inside (c .before))
+
+no-more-requires : tie.Need-no-more-requires
+no-more-requires c κs = search needs
+
+-- ---- its cells
+
+abbrev else : tie.After-no-more → tie.Else1
+else c = c .before .before
+
+abbrev start-2 : tie.After-no-more → tie.Start
+start-2 c = start (else c)
+
+abbrev from : tie.After-no-more → ℕ
+from c = c .before .cell-at .result + skip (else c)
+
+from-is : (c : tie.After-no-more)
+    → from c ≡ start-2 c .args .column * rowsOf (start-2 c .args .h) + start-2 c .args .row + skip (else c)
+from-is c = ap (λ (n : ℕ). n + skip (else c)) (c .before .cell-at .ensures)
+
+many-is : (c : tie.After-no-more) → c .no-more .result ≡ min 170 (start-2 c .args .posts - skip (else c))
+many-is c = c .no-more .ensures
+
+end-room : (c : tie.After-no-more) → from c + c .no-more .result ≤ length (start-2 c .args .grid .now)
+end-room c =
+    lent-room (start-2 c .pre) (skip (else c)) 170 (from c) (c .no-more .result) (from-is c) (many-is c)
+    (omega (arith, inside (else c)))
+
+end-most : (c : tie.After-no-more) → from c + c .no-more .result ≤ 4194304
+end-most c = omega (arith, inside (else c), from-most (start-2 c .pre), c .before .cell-at .ensures, many-is c)
+
+add-here : tie.Need-add-here
+add-here c = omega (arith, end-most c)
+
+z-of-requires : tie.Need-z-of-requires
+z-of-requires c κs = search needs
+
+mul-write-further : tie.Need-mul-write-further
+mul-write-further c = omega (arith, end-most (c .before))
+
+sub-write-further : tie.Need-sub-write-further
+sub-write-further c = omega arith
+
+part-write-further-start : tie.Need-part-write-further-start
+part-write-further-start c = omega arith
+
+part-write-further-end : tie.Need-part-write-further-end
+part-write-further-end c = omega (arith, end-room (c .before))
+
+write-further-requires : tie.Need-write-further-requires
+write-further-requires c κs =
+    let z = c .before .before in
+    let n = z .before in
+    let s = start-2 n in
+    let m = n .no-more .result in
+    let z-is = z .z-of .ensures in
+    let some = z-range (s .args .h) (s .pre .sheet .obeys) .0 in
+    record {
+      some = omega (arith, z-is, some);
+      sent = rw z-is (lent-sends (s .pre) (skip (else n)) 170 (from n) m (from-is n) (many-is n));
+      cells-most = lent-most (s .pre) (skip (else n)) 170 (from n) m (from-is n) (many-is n);
+      room = s .pre .long;
+    }
+
+same-length-2 : tie.Need-same-length-2
+same-length-2 c = search needs
+
+returns-2 : tie.Need-returns-2
+returns-2 c =
+    let w = c .before .before in
+    let z = w .before .before .before in
+    let n = z .before in
+    let s = start-2 n in
+    let left = else n .if1 .left in
+    let k-is : s .args .k ≡ suc (s .args .k - 1) = omega (arith, left) in
+    w .write-further .ensures
+    ∙ further-block (s .pre) (s .args .k - 1) k-is (z .z-of .ensures)
+    (lent-cells (s .pre) (skip (else n)) 170 (from n) (n .no-more .result) (from-is n) (many-is n))
+
+pub write-profile-block-spec : {M : Type 1} → statement M
+write-profile-block-spec =
+    tie.close
+    (tie.spec
+    write-opening-requires
+    same-length
+    returns
+    sub-skip
+    mul-skip
+    add-skip
+    cell-at-requires
+    add-from
+    sub-no-more
+    no-more-requires
+    add-here
+    z-of-requires
+    mul-write-further
+    sub-write-further
+    part-write-further-start
+    part-write-further-end
+    write-further-requires
+    same-length-2
+    returns-2)

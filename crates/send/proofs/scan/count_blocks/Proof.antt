@@ -1,0 +1,70 @@
+-- The block where the next column starts; ScanLaws keeps it small.
+use Prim.Native.Nat.{ℕ, _+_, _≤_, _-_}
+use mathlib.Core.Path.{_≡_, sym, _∙_, ap}
+use native.Mathlib.Omega.{arith}
+use Rattle.send.specs.ScanSteps.{startAt}
+use Rattle.send.proofs.ScanLaws.{start-first, start-more, column-room, posts-most, next-most}
+use Rattle.send.proofs.scan.count_blocks.Statement.{statement}
+use Rattle.send.proofs.scan.count_blocks.Tie as tie
+
+abbrev Inv-loop : tie.InvT-loop
+Inv-loop columns rows grid next₀ c₀ next c = (c ≤ columns) × (next ≡ startAt rows grid c)
+
+abbrev μ-loop : tie.MeasureT-loop
+μ-loop columns rows grid next₀ c₀ next c = columns - c
+
+loop-holds : tie.Need-loop-holds Inv-loop μ-loop
+loop-holds c = (omega arith, sym (start-first (c .args .rows) (c .args .grid .now)))
+
+column-at-requires : tie.Need-column-at-requires Inv-loop μ-loop
+column-at-requires c κs = column-room (c .before .before .pre) (c .before .loop .c) (c .loop-test .taken)
+
+blocks-for-requires : tie.Need-blocks-for-requires Inv-loop μ-loop
+blocks-for-requires c κs =
+    let l = c .before .before in
+    omega (arith, posts-most (l .before .pre) (l .loop .c) (c .before .loop-test .taken), c .column-at .ensures .1)
+
+add-next : tie.Need-add-next Inv-loop μ-loop
+add-next c =
+    let a = c .before in
+    let l = a .before .before in
+    omega
+    (arith, next-most (l .before .pre) (l .loop .c) (l .loop .next) (a .column-at .result .posts) (a .before .loop-test .taken) (l .loop .inv .1) (a .column-at .ensures .1), c .blocks-for .ensures)
+
+add-c : tie.Need-add-c Inv-loop μ-loop
+add-c c = omega arith
+
+loop-less : tie.Need-loop-less Inv-loop μ-loop
+loop-less c = omega arith
+
+loop-again : tie.Need-loop-again Inv-loop μ-loop
+loop-again c =
+    let a = c .before in
+    let l = a .before .before in
+    let s = l .before .args in (
+      omega arith,
+      ap (λ (n : ℕ). l .loop .next + n) (c .blocks-for .ensures)
+          ∙ start-more (s .rows) (s .grid .now) (l .loop .c) (l .loop .next) (a .column-at .result .posts) (l .loop .inv .1) (a .column-at .ensures .1),
+    )
+
+returns : tie.Need-returns Inv-loop μ-loop
+returns c =
+    let l = c .before in
+    let a = l .before .args in
+    let e : l .loop .c ≡ a .columns = omega arith in
+    l .loop .inv .1 ∙ ap (startAt (a .rows) (a .grid .now)) e
+
+pub count-blocks-spec : {M : Type 1} → statement M
+count-blocks-spec =
+    tie.close
+    (tie.spec
+    Inv-loop
+    μ-loop
+    loop-holds
+    column-at-requires
+    blocks-for-requires
+    add-next
+    add-c
+    loop-less
+    loop-again
+    returns)

@@ -1,0 +1,59 @@
+-- How the code scans a grid: the columns and blocks of document 01, "Writing", by their rows; ScanLaws has that they are the written ones.
+use Prim.Native.Nat.{ℕ, zero, suc, _+_, _*_, _≤_, _<_}
+use mathlib.Core.Bool.{true, false, cond, not}
+use mathlib.Core.List.{List}
+use mathlib.Core.Path.{_≡_}
+use lib.Dec.{leb}
+use lib.IntN.{ℤ, pos}
+use lib.ListN.{length, take, drop}
+use Rattle.sheet.specs.RecordA.{lesser, greater}
+use Rattle.load.specs.Posts.{void, sameZ, blocksFor}
+use Rattle.meaning.specs.Rules.{filledOnly, leastOf, greatestOf}
+use Rattle.written.specs.Cells.{isNone, firstRow, profileCells}
+use Rattle.send.specs.declared.scan.Found.{Found}
+use Rattle.send.specs.declared.scan.Running.{Running}
+
+-- ---- columns and blocks
+
+abbrev pub columnAt : ℕ → List ℤ → ℕ → List ℤ
+columnAt rows grid c = take rows (drop (c * rows) grid)
+
+unfoldable pub startAt : ℕ → List ℤ → ℕ → ℕ
+startAt rows grid zero = 1
+startAt rows grid (suc c) = startAt rows grid c + blocksFor (length (profileCells (columnAt rows grid c)))
+
+unfoldable pub columnFor : ℕ → List ℤ → ℕ → ℕ → ℕ
+columnFor rows grid zero number = 0
+columnFor rows grid (suc c) number = cond (leb (startAt rows grid (suc c)) number) (suc c) (columnFor rows grid c number)
+
+-- the sizes that record A's rules leave, in a grid that has the cells
+pub record Sizes (columns rows : ℕ) (grid : List ℤ) : Type 0 where
+  pub columns-most : columns ≤ 2048
+  pub rows-most : rows ≤ 2048
+  pub rows-least : 1 ≤ rows
+  pub cells-there : columns * rows ≤ length grid
+
+-- the column that has a block: where its profile starts, and its posts, among which the block is
+pub record Finds (columns rows : ℕ) (grid : List ℤ) (number : ℕ) (r : Found) : Type 0 where
+  pub column-is : r .column ≡ columnFor rows grid columns number
+  pub start-is : r .start ≡ startAt rows grid (r .column)
+  pub row-is : r .row ≡ firstRow (columnAt rows grid (r .column))
+  pub posts-are : r .posts ≡ length (profileCells (columnAt rows grid (r .column)))
+  pub column-within : r .column < columns
+  pub not-before : r .start ≤ number
+  pub not-behind : number < r .start + blocksFor (r .posts)
+
+-- ---- extremes, from the last cell
+
+abbrev pub noCell : Running
+noCell = record { some = false; low = pos 0; high = pos 0 }
+
+abbrev pub withCell : ℤ → Running → Running
+withCell cell t =
+    cond (sameZ cell void) t
+    (cond (t .some) (record { some = true; low = lesser cell (t .low); high = greater cell (t .high) })
+    (record { some = true; low = cell; high = cell }))
+
+abbrev pub running : List ℤ → Running
+running cells =
+    record { some = not (isNone (filledOnly cells)); low = leastOf (filledOnly cells); high = greatestOf (filledOnly cells) }

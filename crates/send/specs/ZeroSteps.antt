@@ -1,0 +1,122 @@
+-- How the code writes block 0: its stretches as columns of numbers, one entry for each, and the text that one turn puts there.
+use mathlib.Core.Bool.{cond}
+use mathlib.Core.List.{List, [], _∷_, _++_, map}
+use Prim.Native.Nat.{ℕ}
+use borrow.Rule.Slice.PartMut.{putMid}
+use lib.Dec.{eqb}
+use lib.IntN.{ℤ, pos}
+use lib.ListN.{length, take, drop, getD}
+use Rattle.sheet.specs.declared.record_a.Header.{Header}
+use Rattle.meaning.specs.Text.{joined}
+use Rattle.spell.specs.Spell.{integerText, integerFits, realText, realFits}
+use Rattle.written.specs.Blocks.{Piece, pieceText, cornerPieces}
+use Rattle.written.specs.Blocks.Piece.{keeps, whole, real, spacing}
+
+-- the pieces of block 0, with the extremes and the columns as they are handed over
+unfoldable pub piecesBy : Header → ℤ → ℤ → ℕ → List Piece
+piecesBy h least greatest columns =
+    keeps 1 144
+    ∷ whole (h .level)
+    ∷ whole 1
+    ∷ whole (h .system)
+    ∷ whole (h .zone)
+    ∷ keeps 169 360
+    ∷ whole (h .ground)
+    ∷ whole (h .vertical)
+    ∷ whole 4
+    ∷ (cornerPieces (h .sw)
+    ++ (cornerPieces (h .nw)
+    ++ (cornerPieces (h .ne)
+    ++ (cornerPieces (h .se)
+    ++ (real least
+    ∷ real greatest
+    ∷ real (pos 0)
+    ∷ whole 0
+    ∷ spacing (h .xstep)
+    ∷ spacing (h .ystep)
+    ∷ spacing (h .zstep)
+    ∷ whole 1
+    ∷ whole columns
+    ∷ keeps 865 160
+    ∷ [])))))
+
+unfoldable pub zeroBy : List ℕ → Header → ℤ → ℤ → ℕ → List ℕ
+zeroBy template h least greatest columns = joined (map (pieceText template) (piecesBy h least greatest columns))
+
+-- ---- the table
+
+-- the bytes before a stretch, its width, and how it is written: 0 kept, 1 an integer, 2 a real, 3 a spacing
+pub record Stretch : Type 0 where
+  pub start : ℕ
+  pub width : ℕ
+  pub how : ℕ
+
+abbrev pub stretch : ℕ → ℕ → ℕ → Stretch
+stretch start width how = record { start = start; width = width; how = how }
+
+unfoldable pub stretches : List Stretch
+stretches =
+    stretch 0 144 0
+    ∷ stretch 144 6 1
+    ∷ stretch 150 6 1
+    ∷ stretch 156 6 1
+    ∷ stretch 162 6 1
+    ∷ stretch 168 360 0
+    ∷ stretch 528 6 1
+    ∷ stretch 534 6 1
+    ∷ stretch 540 6 1
+    ∷ stretch 546 24 2
+    ∷ stretch 570 24 2
+    ∷ stretch 594 24 2
+    ∷ stretch 618 24 2
+    ∷ stretch 642 24 2
+    ∷ stretch 666 24 2
+    ∷ stretch 690 24 2
+    ∷ stretch 714 24 2
+    ∷ stretch 738 24 2
+    ∷ stretch 762 24 2
+    ∷ stretch 786 24 2
+    ∷ stretch 810 6 1
+    ∷ stretch 816 12 3
+    ∷ stretch 828 12 3
+    ∷ stretch 840 12 3
+    ∷ stretch 852 6 1
+    ∷ stretch 858 6 1
+    ∷ stretch 864 160 0
+    ∷ []
+
+-- past the last one, the block's end
+abbrev pub blockEnd : Stretch
+blockEnd = stretch 1024 0 0
+
+abbrev pub stretchAt : ℕ → Stretch
+stretchAt i = getD stretches i blockEnd
+
+-- ---- the numbers
+
+-- what is written in a piece; 0 where the template is kept
+abbrev pub numberIn : Piece → ℤ
+numberIn (keeps first width) = pos 0
+numberIn (whole n) = pos n
+numberIn (real z) = z
+numberIn (spacing v) = pos v
+
+unfoldable pub numbersBy : Header → ℤ → ℤ → ℕ → List ℤ
+numbersBy h least greatest columns = map numberIn (piecesBy h least greatest columns)
+
+-- ---- one turn
+
+-- what a field holds afterwards: the stretch kept, or the number's text where it fits, and else what stood there
+unfoldable pub textBy : ℕ → ℤ → List ℕ → List ℕ → List ℕ
+textBy how value kept field =
+    cond (eqb how 0) kept
+    (cond (eqb how 1) (cond (integerFits (length field) value) (integerText (length field) value) field)
+    (cond (eqb how 2) (cond (realFits 15 (length field) value) (realText 15 68 (length field) value) field)
+    (cond (realFits 6 (length field) value) (realText 6 69 (length field) value) field)))
+
+-- the bytes of a stretch
+abbrev pub within : Stretch → List ℕ → List ℕ
+within s block = take (s .width) (drop (s .start) block)
+
+abbrev pub pieceBy : List ℕ → Stretch → ℤ → List ℕ → List ℕ
+pieceBy template s value block = putMid (s .start) (s .width) block (textBy (s .how) value (within s template) (within s block))
