@@ -1,6 +1,7 @@
 //! The second program: document 01 written down once more, apart from the library
 //! it checks, and as plainly as it can be.
 
+pub mod asking;
 pub mod block;
 pub mod comparing;
 pub mod dice;

@@ -44,6 +44,9 @@ use Rattle.session.specs.Session.{fresh, sound}
 use Rattle.session.specs.declared.Session.{Session}
 use Rattle.load.specs.Deliver.{deliverOf, cellsAfter}
 use Rattle.load.specs.declared.Delivered.{Delivered}
+use Rattle.written.specs.Sending.{blockFault, blockAfter, countOf}
+use Rattle.send.specs.SendSteps.{sentBy, sheetSentFault, sheetAfter}
+use Rattle.send.specs.declared.Sent.{Sent}
 
 pub read-integer : (field : List ℕ) {a b : Reading} → a ≡ integer field → b ≡ integer field → a ≡ b
 read-integer field = one-answer
@@ -164,3 +167,22 @@ dem-origin block = one-answer
 
 pub dem-name-length : (block : List ℕ) {a b : ℕ} → a ≡ nameLength block → b ≡ nameLength block → a ≡ b
 dem-name-length block = one-answer
+
+pub block-count : (template : List ℕ) (grid : List ℤ) {a b : ℕ} → a ≡ countOf template grid → b ≡ countOf template grid → a ≡ b
+block-count template grid = one-answer
+
+pub write-block : (template : List ℕ) (grid : List ℤ) (number : ℕ) (block : List ℕ) {a b : Sent}
+    → a ≡ sentBy (blockFault template grid number (length block)) → b ≡ sentBy (blockFault template grid number (length block)) → a ≡ b
+write-block template grid number block = one-answer
+
+pub write-block-bytes : (template : List ℕ) (grid : List ℤ) (number : ℕ) (block : List ℕ) {a b : List ℕ}
+    → a ≡ blockAfter template grid number block → b ≡ blockAfter template grid number block → a ≡ b
+write-block-bytes template grid number block = one-answer
+
+pub write-sheet : (template : List ℕ) (grid : List ℤ) (out : List ℕ) {a b : Sent}
+    → a ≡ sentBy (sheetSentFault template grid (length out)) → b ≡ sentBy (sheetSentFault template grid (length out)) → a ≡ b
+write-sheet template grid out = one-answer
+
+pub write-sheet-bytes : (template : List ℕ) (grid : List ℤ) (out : List ℕ) {a b : List ℕ} → a ≡ sheetAfter template grid out
+    → b ≡ sheetAfter template grid out → a ≡ b
+write-sheet-bytes template grid out = one-answer

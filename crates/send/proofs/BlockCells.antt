@@ -1,4 +1,4 @@
--- The cells that a block of a profile sends are a stretch of the grid, lent as they stand.
+-- The cells that a block of a profile sends are a stretch of the grid, lent as they stand; and the blocks by what is handed over for them.
 use mathlib.Core.Bool.{true}
 use mathlib.Core.List.{List, [], _∷_}
 use mathlib.Core.Path.{_≡_, refl, sym, _∙_, ap, ap₂}
@@ -15,7 +15,7 @@ use Rattle.session.proofs.Facts.{Heading, header-facts}
 use Rattle.load.specs.Posts.{void}
 use Rattle.load.specs.Deliver.{zOf}
 use Rattle.meaning.specs.Rules.{leastStated, greatestStated}
-use Rattle.written.specs.Blocks.{xSent, ySent, profileBlock}
+use Rattle.written.specs.Blocks.{sheetCells, blockZero, xSent, ySent, profileBlock}
 use Rattle.written.specs.Cells.{canSend, sendable, columnCells, cellsSent}
 use Rattle.written.proofs.ColumnsSent.{each-sends, all-send, sendable-sent}
 use Rattle.written.proofs.SheetSent.{column-length, column-sendable}
@@ -24,7 +24,9 @@ use Rattle.send.specs.ProfileSteps.{firstBy, furtherBy}
 use Rattle.send.specs.ScanSteps.{Sizes}
 use Rattle.send.specs.SendSteps.{SendableSheet, ProfileAsked}
 use Rattle.send.proofs.Columns.{drop-take, profile-place, profile-within, profile-some}
+use Rattle.send.specs.ZeroSteps.{zeroBy}
 use Rattle.send.proofs.ProfileLaws.{first-sent, further-sent}
+use Rattle.send.proofs.ZeroLaws.{zero-sent}
 
 -- ---- a stretch of a stretch
 
@@ -85,6 +87,13 @@ sizes {h} s =
       rows-least = rows-least h (s .obeys);
       cells-there = s .room;
     }
+
+-- block 0 by the numbers that the code hands over
+pub zero-block : (template : List ℕ) (h : Header) (grid : List ℤ) {written : List ℕ} {least greatest : ℤ} {columns : ℕ}
+    → written ≡ zeroBy template h least greatest columns → least ≡ leastStated (sheetCells h grid)
+    → greatest ≡ greatestStated (sheetCells h grid) → columns ≡ columnsOf h → written ≡ blockZero template h grid
+zero-block template h grid e el eg ec =
+    e ∙ (λ i. zeroBy template h (el i) (eg i) (ec i)) ∙ zero-sent template h grid
 
 -- ---- a profile in the grid
 
@@ -167,12 +176,15 @@ module _ {h : Header} {grid : List ℤ} {column row posts k : ℕ} {block : List
 
   -- ---- the block that is written of them
 
-  pub opening-block : {number : ℕ} {x y least greatest : ℤ} {z : ℕ} {front : List ℤ}
-      → number ≡ suc column → x ≡ xSent h column → y ≡ yOfRow h row → least ≡ leastStated sent → greatest ≡ greatestStated sent
-      → z ≡ zOf h → front ≡ take 146 sent → firstBy number posts x y least greatest z front ≡ profileBlock h grid column 0
-  opening-block {y} en ex ey el eg ez ef =
+  pub opening-block : {written : List ℕ} {number : ℕ} {x y least greatest : ℤ} {z : ℕ} {front : List ℤ}
+      → written ≡ firstBy number posts x y least greatest z front → number ≡ suc column → x ≡ xSent h column → y ≡ yOfRow h row
+      → least ≡ leastStated sent → greatest ≡ greatestStated sent → z ≡ zOf h → front ≡ take 146 sent
+      → written ≡ profileBlock h grid column 0
+  opening-block {y} e en ex ey el eg ez ef =
       let y-is : y ≡ ySent h grid column = ey ∙ ap (yOfRow h) (a .row-is) in
-      (λ i. firstBy (en i) (a .posts-are i) (ex i) (y-is i) (el i) (eg i) (ez i) (ef i)) ∙ first-sent h grid column
+      e
+      ∙ (λ i. firstBy (en i) (a .posts-are i) (ex i) (y-is i) (el i) (eg i) (ez i) (ef i))
+      ∙ first-sent h grid column
 
   pub further-block : {z : ℕ} {front : List ℤ} (i : ℕ) → k ≡ suc i → z ≡ zOf h → front ≡ take 170 (drop (146 + 170 * i) sent)
       → furtherBy z front ≡ profileBlock h grid column k

@@ -11,3 +11,6 @@ pub mod AnswerLaws
 pub mod BlockCells
 pub mod BlockJudged
 pub mod BlockPlaces
+pub mod WholeText
+pub mod WholeJudged
+pub mod WholeBlocks

@@ -27,7 +27,7 @@ use Rattle.send.specs.ProfileSteps.{realsBy, countsBy, headBy}
 -- ---- a field
 
 -- the stretch that was lent is back with the field's text in it
-field-put : (l text : List ℕ) (at width k : ℕ) → at + width ≤ length l → length text ≡ width → k ≡ width
+pub field-put : (l text : List ℕ) (at width k : ℕ) → at + width ≤ length l → length text ≡ width → k ≡ width
     → Puts l at text (take at l ++ (text ++ drop k (drop at l))) (at + width)
 field-put l text at width k room long e =
     let rest = drop k (drop at l) in

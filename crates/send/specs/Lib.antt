@@ -4,3 +4,4 @@ pub mod ZeroSteps
 pub mod SendSteps
 pub mod AnswerSteps
 pub mod BlockSteps
+pub mod WholeSteps

@@ -1,5 +1,5 @@
 -- How the code writes block 0: its stretches as columns of numbers, one entry for each, and the text that one turn puts there.
-use mathlib.Core.Bool.{cond}
+use mathlib.Core.Bool.{Bool, true, cond}
 use mathlib.Core.List.{List, [], _∷_, _++_, map}
 use Prim.Native.Nat.{ℕ}
 use borrow.Rule.Slice.PartMut.{putMid}
@@ -106,7 +106,10 @@ numbersBy h least greatest columns = map numberIn (piecesBy h least greatest col
 
 -- ---- one turn
 
--- what a field holds afterwards: the stretch kept, or the number's text where it fits, and else what stood there
+-- a text where it fits, and else the field as it was
+abbrev pub ifFits : Bool → List ℕ → List ℕ → List ℕ
+ifFits fits text field = cond fits text field
+
 unfoldable pub textBy : ℕ → ℤ → List ℕ → List ℕ → List ℕ
 textBy how value kept field =
     cond (eqb how 0) kept
@@ -114,9 +117,9 @@ textBy how value kept field =
     (cond (eqb how 2) (cond (realFits 15 (length field) value) (realText 15 68 (length field) value) field)
     (cond (realFits 6 (length field) value) (realText 6 69 (length field) value) field)))
 
--- the bytes of a stretch
+-- the stretch of a text
 abbrev pub within : Stretch → List ℕ → List ℕ
-within s block = take (s .width) (drop (s .start) block)
+within s text = take (s .width) (drop (s .start) text)
 
 abbrev pub pieceBy : List ℕ → Stretch → ℤ → List ℕ → List ℕ
 pieceBy template s value block = putMid (s .start) (s .width) block (textBy (s .how) value (within s template) (within s block))

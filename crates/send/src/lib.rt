@@ -2,6 +2,7 @@
 mod one_block;
 mod profile_blocks;
 mod scan;
+mod whole_sheet;
 mod zero;
 
 use one_block::Judged;
@@ -9,7 +10,7 @@ use sheet::record_a::Header;
 ghost use mathlib.Core.Path.{_≡_};
 ghost use lib.ListN.{length};
 ghost use Rattle.written.specs.Sending.{blockFault, blockAfter, countOf};
-ghost use Rattle.send.specs.SendSteps.{sentBy, ZeroAsked};
+ghost use Rattle.send.specs.SendSteps.{sentBy, sheetSentFault, sheetAfter, ZeroAsked};
 ghost use Rattle.send.specs.AnswerSteps.{LaterAsked, laterBlock, countFault, numbered};
 
 // What a writer answers: written, or document 01's kind with its one number.
@@ -72,5 +73,17 @@ pub fn write_block(template: &[u8], grid: &[i32], number: u64, block: &mut [u8])
     match judged {
         Judged::Bad(kind, n) => Sent::Refused(kind, n),
         Judged::Good(h) => write_number(template, h, grid, number, block),
+    }
+}
+
+// The whole sheet into one lent buffer of block_count × 1,024 bytes: write_block's blocks, one behind the other (proofs/WholeBlocks).
+// The sheet is judged and counted once. A refusal leaves the buffer as it was.
+pub fn write_sheet(template: &[u8], grid: &[i32], out: &mut [u8]) -> Sent
+    ensures { λ r. ⌜ (r ≡ sentBy (sheetSentFault (now (template .entry)) (now (grid .entry)) (length (now (out .entry))))) × (now (out .exit) ≡ sheetAfter (now (template .entry)) (now (grid .entry)) (now (out .entry))) ⌝ }
+{
+    let judged = one_block::judge_sheet(template, grid);
+    match judged {
+        Judged::Bad(kind, n) => Sent::Refused(kind, n),
+        Judged::Good(h) => whole_sheet::write_fitting(template, h, grid, out),
     }
 }

@@ -108,7 +108,7 @@ fn place_at(first: i64, index: usize, step: u64) -> i64
     (first + index as i64) * step as i64
 }
 
-// "x and y of the southern post": a column's x.
+// The x of a column, in billionths.
 fn x_of(h: Header, column: usize) -> i64
     requires { ⌜ (headerObeys h ≡ true) × (column < columnsOf h) ⌝ }
     ensures { λ r. ⌜ r ≡ xSent h column ⌝ }
@@ -117,7 +117,7 @@ fn x_of(h: Header, column: usize) -> i64
     place_at(l.first, column, h.xstep)
 }
 
-// A row's y.
+// The y of a row.
 fn y_of(h: Header, row: usize) -> i64
     requires { ⌜ (headerObeys h ≡ true) × (row < rowsOf h) ⌝ }
     ensures { λ r. ⌜ r ≡ yOfRow h row ⌝ }
@@ -126,7 +126,7 @@ fn y_of(h: Header, row: usize) -> i64
     place_at(l.first, row, h.ystep)
 }
 
-// "column times rows plus row": where a cell stands in the grid.
+// Where a cell stands in the grid: column after column, each from its first row on.
 fn cell_at(h: Header, column: usize, row: usize) -> usize
     requires { ⌜ (headerObeys h ≡ true) × ((column < columnsOf h) × (row < rowsOf h)) ⌝ }
     ensures { λ r. ⌜ r ≡ column * rowsOf h + row ⌝ }
@@ -134,7 +134,7 @@ fn cell_at(h: Header, column: usize, row: usize) -> usize
     column * rows_of(h) + row
 }
 
-// What a block has room for, or less.
+// So many, but no more than a block has room for.
 fn no_more(n: usize, most: usize) -> usize
     ensures { λ r. ⌜ r ≡ min most n ⌝ }
 {

@@ -180,7 +180,7 @@ pub(crate) fn extremes_of(cells: &[i32]) -> Extremes
 }
 
 // "up to 146" posts in a profile's first block, "up to 170" in each further one.
-fn blocks_for(posts: usize) -> u64
+pub(crate) fn blocks_for(posts: usize) -> u64
     requires { ⌜ posts ≤ 2048 ⌝ }
     ensures { λ r. ⌜ r ≡ blocksFor posts ⌝ }
 {
@@ -190,7 +190,7 @@ fn blocks_for(posts: usize) -> u64
     1 + ((posts - 146 + 169) / 170) as u64
 }
 
-fn column_at(rows: usize, grid: &[i32], c: usize) -> Column
+pub(crate) fn column_at(rows: usize, grid: &[i32], c: usize) -> Column
     requires { ⌜ c * rows + rows ≤ length (now grid) ⌝ }
     ensures { λ r. ⌜ (r .row ≡ firstRow (columnAt rows (now (grid .entry)) c)) × (r .posts ≡ length (profileCells (columnAt rows (now (grid .entry)) c))) ⌝ }
 {

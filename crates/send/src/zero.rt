@@ -1,10 +1,12 @@
 // Block 0 written anew: document 01, "Writing". Its stretches stand in arrays, one entry for each, in the order of record A's table.
+use sheet::record_a::Corner;
 use sheet::record_a::Header;
 ghost use mathlib.Core.Bool.{true};
 ghost use mathlib.Core.Path.{_≡_};
 ghost use Prim.Native.Nat.{_≤_, _<_, _^_};
 ghost use lib.IntN.{pos};
 ghost use lib.ListN.{length};
+ghost use borrow.Rule.Slice.PartMut.{putMid};
 ghost use Rattle.session.specs.Session.{headerObeys};
 ghost use Rattle.spell.specs.Spell.{realFits};
 ghost use Rattle.send.specs.ZeroSteps.{zeroBy, stretchAt, textBy, pieceBy, numbersBy};
@@ -122,7 +124,6 @@ fn how(i: usize) -> u8
     HOW[i]
 }
 
-// "text, bytes 169-528 and 865-1024 stay"
 fn copy(kept: &[u8], field: &mut [u8])
     requires { ⌜ length (now kept) ≡ length (now field) ⌝ }
     ensures { λ _. ⌜ now (field .exit) ≡ now (kept .entry) ⌝ }

@@ -1,17 +1,12 @@
-//! Compares the field readings of libdesk.a with those of number.rs, text by text.
+//! Compares the field readings of the C calls, asked through PROGRAM (`examples/answers.c`), with those of number.rs.
+//! compare_fields PROGRAM [SEED]
 //! Status 0: no difference. Status 1: a difference, or too little was compared.
 
+use second::asking::{eight, four, Asking};
 use second::dice::Dice;
 use second::number;
 use second::texts::FAMILIES;
 use std::process::exit;
-
-extern "C" {
-    fn dem_integer_kind(bytes: *const u8, length: usize) -> u32;
-    fn dem_integer_value(bytes: *const u8, length: usize) -> i64;
-    fn dem_real_kind(bytes: *const u8, length: usize) -> u32;
-    fn dem_real_value(bytes: *const u8, length: usize) -> i64;
-}
 
 const USUAL_SEED: u64 = 19_970_101;
 const FEWEST_TEXTS: u64 = 1_000_000;
@@ -19,59 +14,61 @@ const KINDS: [u32; 5] = [0, 1, 6, 7, 8];
 /// Kinds that must turn up, or the run has shown too little.
 const INTEGER_KINDS: &[u32] = &[0, 1, 6];
 const REAL_KINDS: &[u32] = &[0, 1, 6, 7, 8];
-/// What stands on both sides of a text when it is lent: a reading that looks past an end
-/// finds more digits the first time, more blanks the second.
-const SURROUNDINGS: [[u8; 8]; 2] = [[b'7'; 8], [b' '; 8]];
+/// The C side lends each text in two surroundings, and answers for both.
+const SURROUNDINGS: usize = 2;
+/// Bytes of an answer: kind and value of an integer, kind and value of a real.
+const ANSWER: usize = 24;
 /// A text is shown up to here; longer ones only test the length.
 const SHOWN: usize = 64;
 
 /// How often each kind was answered, in the order of KINDS.
 type Tally = [u64; KINDS.len()];
 
-#[derive(Default)]
+/// A text with what the second program reads in it.
+struct Question {
+    text: Vec<u8>,
+    integer: (u32, i64),
+    real: (u32, i64),
+}
+
 struct Comparison {
     texts: u64,
     integers: Tally,
     reals: Tally,
-    /// The text and its surroundings, kept here to be used again for each text.
-    lent: Vec<u8>,
-}
-
-fn desk_integer(field: &[u8]) -> (u32, i64) {
-    // Sound as the calls only read `field.len()` bytes from a pointer that is never null.
-    unsafe {
-        (
-            dem_integer_kind(field.as_ptr(), field.len()),
-            dem_integer_value(field.as_ptr(), field.len()),
-        )
-    }
-}
-
-fn desk_real(field: &[u8]) -> (u32, i64) {
-    // Sound as in desk_integer.
-    unsafe {
-        (
-            dem_real_kind(field.as_ptr(), field.len()),
-            dem_real_value(field.as_ptr(), field.len()),
-        )
-    }
+    desk: Asking,
+    asked: Vec<Question>,
 }
 
 impl Comparison {
     fn compare(&mut self, text: &[u8]) {
         let (integer, real) = (number::integer(text), number::real(text));
-        for around in SURROUNDINGS {
-            self.lent.clear();
-            self.lent.extend_from_slice(&around);
-            self.lent.extend_from_slice(text);
-            self.lent.extend_from_slice(&around);
-            let field = &self.lent[around.len()..around.len() + text.len()];
-            demand_same("integer", text, integer, desk_integer(field));
-            demand_same("real", text, real, desk_real(field));
+        self.asked.push(Question {
+            text: text.to_vec(),
+            integer,
+            real,
+        });
+        if self.desk.ask(b'f', text, SURROUNDINGS * ANSWER) {
+            self.hold_against();
         }
         self.texts += 1;
         count(&mut self.integers, integer.0);
         count(&mut self.reals, real.0);
+    }
+
+    fn hold_against(&mut self) {
+        let answers = self.desk.take(self.asked.len() * SURROUNDINGS * ANSWER);
+        let pairs = answers.chunks(SURROUNDINGS * ANSWER);
+        for (question, both) in self.asked.iter().zip(pairs) {
+            for answer in both.chunks(ANSWER) {
+                let (integer, real) = (
+                    (four(answer, 0), eight(answer, 4)),
+                    (four(answer, 12), eight(answer, 16)),
+                );
+                demand_same("integer", &question.text, question.integer, integer);
+                demand_same("real", &question.text, question.real, real);
+            }
+        }
+        self.asked.clear();
     }
 }
 
@@ -99,7 +96,7 @@ fn count(tally: &mut Tally, kind: u32) {
 }
 
 fn seed_asked_for() -> u64 {
-    match std::env::args().nth(1) {
+    match std::env::args().nth(2) {
         None => USUAL_SEED,
         Some(given) => given.parse().unwrap_or_else(|_| {
             println!("the seed is a whole number from 0 to {}", u64::MAX);
@@ -155,15 +152,27 @@ fn shortcomings(comparison: &Comparison) -> Vec<String> {
 }
 
 fn main() {
+    let Some(program) = std::env::args().nth(1) else {
+        println!("compare_fields PROGRAM [SEED]");
+        exit(2);
+    };
     let seed = seed_asked_for();
     println!("seed {seed}");
     let mut dice = Dice::new(seed);
-    let mut comparison = Comparison::default();
+    let desk = Asking::of(&program).unwrap_or_else(|fault| end_badly(&fault));
+    let mut comparison = Comparison {
+        texts: 0,
+        integers: Tally::default(),
+        reals: Tally::default(),
+        desk,
+        asked: Vec::new(),
+    };
     for family in FAMILIES {
         let before = comparison.texts;
         (family.make)(&mut dice, &mut |text| comparison.compare(text));
         println!("{:<20} {:>8}", family.name, comparison.texts - before);
     }
+    comparison.hold_against();
     print_table(&comparison);
     let found = shortcomings(&comparison);
     for shortcoming in &found {
@@ -172,5 +181,13 @@ fn main() {
     if !found.is_empty() {
         exit(1);
     }
+    if let Err(fault) = comparison.desk.done() {
+        end_badly(&fault);
+    }
     println!("no difference");
+}
+
+fn end_badly(fault: &str) -> ! {
+    println!("{fault}");
+    exit(1);
 }

@@ -1,25 +1,20 @@
-//! Compares the check of a record A, the origin and the name of libdesk.a with those of
-//! record_a.rs, block by block. Status 0: no difference. Status 1: a difference, or too
+//! Compares the check of a record A, the origin and the name of the C calls, asked through PROGRAM
+//! (`examples/answers.c`), with those of record_a.rs. compare_record_a PROGRAM [SEED]. Status 0: no difference. Status 1: a difference, or too
 //! little was compared.
 
+use second::asking::{four, Asking};
 use second::dice::Dice;
 use second::headers::FAMILIES;
 use second::record_a;
 use std::collections::BTreeMap;
 use std::process::exit;
 
-extern "C" {
-    fn dem_record_a_kind(bytes: *const u8, length: usize) -> u32;
-    fn dem_record_a_byte(bytes: *const u8, length: usize) -> u32;
-    fn dem_origin(bytes: *const u8, length: usize) -> u32;
-    fn dem_name_length(bytes: *const u8, length: usize) -> usize;
-}
-
 const USUAL_SEED: u64 = 19_970_102;
 const FEWEST_BLOCKS: u64 = 200_000;
-/// What stands on both sides of a block when it is lent, by turns: a check that looks
-/// past an end finds a digit or a blank there.
-const SURROUNDINGS: [[u8; 24]; 2] = [[b'7'; 24], [b' '; 24]];
+/// The C side lends each block in two surroundings, and answers for both.
+const SURROUNDINGS: usize = 2;
+/// Bytes of an answer: kind, byte, origin, length of the name.
+const ANSWER: usize = 16;
 
 /// What one program says of a block.
 #[derive(Clone, Copy, Debug, PartialEq)]
@@ -30,14 +25,13 @@ struct Findings {
     name_length: usize,
 }
 
-#[derive(Default)]
 struct Comparison {
     blocks: u64,
     faults: BTreeMap<(u32, u32), u64>,
     origins: BTreeMap<u32, u64>,
     name_lengths: BTreeMap<usize, u64>,
-    /// The block and its surroundings, kept here to be used again for each block.
-    lent: Vec<u8>,
+    desk: Asking,
+    asked: Vec<(Vec<u8>, Findings)>,
 }
 
 fn second_findings(block: &[u8]) -> Findings {
@@ -50,33 +44,38 @@ fn second_findings(block: &[u8]) -> Findings {
     }
 }
 
-fn desk_findings(block: &[u8]) -> Findings {
-    let (bytes, length) = (block.as_ptr(), block.len());
-    // Sound as the calls only read `length` bytes from a pointer that is never null.
-    unsafe {
-        Findings {
-            kind: dem_record_a_kind(bytes, length),
-            byte: dem_record_a_byte(bytes, length),
-            origin: dem_origin(bytes, length),
-            name_length: dem_name_length(bytes, length),
-        }
+fn desk_findings(answer: &[u8]) -> Findings {
+    Findings {
+        kind: four(answer, 0),
+        byte: four(answer, 4),
+        origin: four(answer, 8),
+        name_length: four(answer, 12) as usize,
     }
 }
 
 impl Comparison {
     fn compare(&mut self, block: &[u8]) {
-        let around = &SURROUNDINGS[self.blocks as usize % SURROUNDINGS.len()];
-        self.lent.clear();
-        self.lent.extend_from_slice(around);
-        self.lent.extend_from_slice(block);
-        self.lent.extend_from_slice(around);
-        let lent = &self.lent[around.len()..around.len() + block.len()];
         let second = second_findings(block);
-        demand_same(self.blocks, block, second, desk_findings(lent));
+        self.asked.push((block.to_vec(), second));
         self.blocks += 1;
         *self.faults.entry((second.kind, second.byte)).or_default() += 1;
         *self.origins.entry(second.origin).or_default() += 1;
         *self.name_lengths.entry(second.name_length).or_default() += 1;
+        if self.desk.ask(b'a', block, SURROUNDINGS * ANSWER) {
+            self.hold_against();
+        }
+    }
+
+    fn hold_against(&mut self) {
+        let answers = self.desk.take(self.asked.len() * SURROUNDINGS * ANSWER);
+        let first = self.blocks - self.asked.len() as u64;
+        let pairs = answers.chunks(SURROUNDINGS * ANSWER);
+        for (place, ((block, second), both)) in self.asked.iter().zip(pairs).enumerate() {
+            for answer in both.chunks(ANSWER) {
+                demand_same(first + place as u64, block, *second, desk_findings(answer));
+            }
+        }
+        self.asked.clear();
     }
 }
 
@@ -149,7 +148,7 @@ fn print_tables(comparison: &Comparison) {
 }
 
 fn seed_asked_for() -> u64 {
-    match std::env::args().nth(1) {
+    match std::env::args().nth(2) {
         None => USUAL_SEED,
         Some(given) => given.parse().unwrap_or_else(|_| {
             println!("the seed is a whole number from 0 to {}", u64::MAX);
@@ -159,15 +158,28 @@ fn seed_asked_for() -> u64 {
 }
 
 fn main() {
+    let Some(program) = std::env::args().nth(1) else {
+        println!("compare_record_a PROGRAM [SEED]");
+        exit(2);
+    };
     let seed = seed_asked_for();
     println!("seed {seed}");
     let mut dice = Dice::new(seed);
-    let mut comparison = Comparison::default();
+    let desk = Asking::of(&program).unwrap_or_else(|fault| end_badly(&fault));
+    let mut comparison = Comparison {
+        blocks: 0,
+        faults: BTreeMap::new(),
+        origins: BTreeMap::new(),
+        name_lengths: BTreeMap::new(),
+        desk,
+        asked: Vec::new(),
+    };
     for family in FAMILIES {
         let before = comparison.blocks;
         (family.make)(&mut dice, &mut |block| comparison.compare(block));
         println!("{:<22} {:>8}", family.name, comparison.blocks - before);
     }
+    comparison.hold_against();
     print_tables(&comparison);
     let found = shortcomings(&comparison);
     for shortcoming in &found {
@@ -176,5 +188,13 @@ fn main() {
     if !found.is_empty() {
         exit(1);
     }
+    if let Err(fault) = comparison.desk.done() {
+        end_badly(&fault);
+    }
     println!("no difference");
+}
+
+fn end_badly(fault: &str) -> ! {
+    println!("{fault}");
+    exit(1);
 }

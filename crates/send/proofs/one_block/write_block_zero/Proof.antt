@@ -12,10 +12,8 @@ use Rattle.written.specs.Blocks.{sheetCells}
 use Rattle.written.specs.Cells.{sendable}
 use Rattle.written.proofs.PlacesSent.{least-fits, greatest-fits}
 use Rattle.written.proofs.SheetSent.{sheet-length}
-use Rattle.send.specs.ZeroSteps.{zeroBy}
-use Rattle.send.proofs.BlockCells.{cells-most, columns-most, z-range}
+use Rattle.send.proofs.BlockCells.{cells-most, columns-most, z-range, zero-block}
 use Rattle.send.proofs.BlockPlaces.{back-is, back-fits}
-use Rattle.send.proofs.ZeroLaws.{zero-sent}
 use Rattle.send.proofs.one_block.write_block_zero.Statement.{statement}
 use Rattle.send.proofs.one_block.write_block_zero.Tie as tie
 
@@ -98,9 +96,8 @@ returns c =
     let a = start-2 e .args in
     let least = back-is (leastStated (cells e)) (least-is e) (least-fits (zOf (a .h)) (z-most e) (cells e) (all e)) in
     let greatest = back-is (greatestStated (cells e)) (greatest-is e) (greatest-fits (zOf (a .h)) (z-most e) (cells e) (all e)) in
-    w .write-zero .ensures
-    ∙ (λ i. zeroBy (a .template .now) (a .h) (least i) (greatest i) (e .before .before .before .columns-of .ensures i))
-    ∙ zero-sent (a .template .now) (a .h) (a .grid .now)
+    zero-block (a .template .now) (a .h) (a .grid .now) (w .write-zero .ensures) least greatest
+    (e .before .before .before .columns-of .ensures)
 
 pub write-block-zero-spec : {M : Type 1} → statement M
 write-block-zero-spec =

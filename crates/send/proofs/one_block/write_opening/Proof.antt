@@ -185,10 +185,9 @@ returns c =
     let z = w .before .before .before .before .before in
     let n = at-no-more z in
     let s = start-3 z in
-    w .write-first .ensures
-    ∙ opening-block (s .pre) (add-one (s .args .column)) (back-is _ (z .before .before .x-of .ensures) (numbers z .x))
-    (back-is _ (z .before .y-of .ensures) (numbers z .y)) (back-is _ (least-is z) (numbers z .least))
-    (back-is _ (greatest-is z) (numbers z .greatest)) (z .z-of .ensures)
+    opening-block (s .pre) (w .write-first .ensures) (add-one (s .args .column))
+    (back-is _ (z .before .before .x-of .ensures) (numbers z .x)) (back-is _ (z .before .y-of .ensures) (numbers z .y))
+    (back-is _ (least-is z) (numbers z .least)) (back-is _ (greatest-is z) (numbers z .greatest)) (z .z-of .ensures)
     (lent-cells (s .pre) 0 146 (cell n .cell-at .result) (n .no-more .result) (from-is n) (many-is n))
 
 pub write-opening-spec : {M : Type 1} → statement M

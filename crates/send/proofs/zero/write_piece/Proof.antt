@@ -60,8 +60,7 @@ returns c =
     let w = c .before .before in
     let k = w .before .before .before .before in
     let s = k .before .before .before .before in
-    put-is (s .args .template .now) (s .args .block .now) (stretchAt (s .args .i)) (k .before .start .ensures) (k .width .ensures)
-    (w .before .before .before .how .ensures)
+    put-is (s .args .template .now) (s .args .block .now) (stretchAt (s .args .i)) (k .before .start .ensures) (k .width .ensures) (w .before .before .before .how .ensures)
     (toZ-ofZ (s .fits .value))
     (w .write-field .ensures)
 

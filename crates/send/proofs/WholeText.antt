@@ -1,0 +1,142 @@
+-- A whole sheet by its columns is its blocks in order: each column's blocks stand from its start on, and one more is one more piece put.
+use mathlib.Core.Bool.{false, cond}
+use mathlib.Core.List.{List, [], _++_, map}
+use mathlib.Core.Path.{_≡_, refl, sym, _∙_, ap, ap₂}
+use Prim.Native.Nat.{ℕ, zero, suc, _+_, _*_, _-_, _≤_, _<_}
+use native.Mathlib.Numerals.{add-one}
+use native.Mathlib.Omega.{arith}
+use borrow.Author.Tests.{ne-eqb}
+use lib.Dec.{eqb}
+use lib.IntN.{ℤ}
+use lib.ListN.{length, take, drop, length-drop}
+use lib.Seq.{take-all, length-take-le}
+use Rattle.sheet.specs.RecordA.{columnsOf, rowsOf}
+use Rattle.sheet.specs.declared.record_a.Header.{Header}
+use Rattle.session.proofs.Facts.{header-facts}
+use Rattle.load.specs.Posts.{blocksFor}
+use Rattle.meaning.specs.Text.{from, below, joined}
+use Rattle.meaning.proofs.Lists.{from-append, map-append, map-shift, joined-append, append-nil, append-brackets}
+use Rattle.spell.specs.Pieces.{Puts}
+use Rattle.spell.proofs.Pieces.{joined as both}
+use Rattle.written.specs.Cells.{cellsSent, startSent, blockCount, columnWith}
+use Rattle.written.specs.Blocks.{blockZero, profileBlock, blockSent}
+use Rattle.written.proofs.SheetSent.{first-start, start-next, start-from, column-with}
+use Rattle.send.specs.ScanSteps.{Sizes}
+use Rattle.send.specs.SendSteps.{SendableSheet}
+use Rattle.send.specs.WholeSteps.{blocksText, columnText, columnsText, wholeText}
+use Rattle.send.proofs.ProfileText.{field-put, named}
+use Rattle.send.proofs.ScanLaws.{start-sent, start-most}
+
+-- ---- texts joined
+
+pub joined-more : (f : ℕ → List ℕ) (k : ℕ) → joined (map f (below k)) ++ f k ≡ joined (map f (below (suc k)))
+joined-more f k =
+    let e : suc k ≡ k + 1 = omega arith in
+    let z : k ≡ 0 + k = omega arith in
+    ap (λ (i : ℕ). joined (map f (below k)) ++ f i) z
+    ∙ ap (λ (l : List ℕ). joined (map f (below k)) ++ l) (sym (append-nil (f (0 + k))))
+    ∙ sym (joined-append (map f (below k)) (map f (from (0 + k) 1)))
+    ∙ ap joined (sym (map-append f (below k) (from (0 + k) 1)))
+    ∙ ap (λ (l : List ℕ). joined (map f l)) (sym (from-append 0 k 1))
+    ∙ ap (λ (n : ℕ). joined (map f (below n))) (sym e)
+
+-- ---- sizes
+
+pub sizes : {h : Header} {grid : List ℤ} → SendableSheet h grid → Sizes (columnsOf h) (rowsOf h) grid
+sizes {h} s =
+    let f = header-facts h (s .obeys) in
+    record { columns-most = f .columns .1; rows-most = f .rows .1; rows-least = f .rows .0; cells-there = s .room }
+
+pub count-most : {h : Header} {grid : List ℤ} → SendableSheet h grid → blockCount h grid ≤ 26625
+count-most {h} {grid} s =
+    let z = sizes s in
+    omega (arith, start-sent h grid (columnsOf h), start-most z (columnsOf h) (omega arith), z .columns-most)
+
+-- ---- pieces put
+
+-- the stretch that is lent comes back with a block in it
+pub block-put : (l text : List ℕ) (at k : ℕ) → at + 1024 ≤ length l → k ≡ 1024 → (block : List ℕ) → block ≡ text
+    → length block ≡ length (take k (drop at l)) → Puts l at text (take at l ++ (block ++ drop k (drop at l))) (at + 1024)
+block-put l text at k room e block is long =
+    let wide : length (take k (drop at l)) ≡ k = length-take-le k (drop at l) (omega (arith, length-drop at l)) in
+    named is (field-put l block at 1024 k room (long ∙ wide ∙ e) e)
+
+module _ (h : Header) (grid : List ℤ) where
+  -- one block more of a column's
+  pub block-more : (c k : ℕ) {before out after : List ℕ} {at mid end : ℕ} → Puts before at (blocksText h grid c k) out mid
+      → Puts out mid (profileBlock h grid c k) after end → Puts before at (blocksText h grid c (k + 1)) after end
+  block-more c k p q = rw (add-one k) (named (joined-more (profileBlock h grid c) k) (both p q))
+
+  -- one column more
+  pub column-more : (n : ℕ) {before out after : List ℕ} {at mid end : ℕ} → Puts before at (columnsText h grid n) out mid
+      → Puts out mid (columnText h grid n) after end → Puts before at (columnsText h grid (n + 1)) after end
+  column-more n p q = rw (add-one n) (named (joined-more (columnText h grid) n) (both p q))
+
+  -- where the next column starts
+  pub next-start : (c at next : ℕ) → at ≡ 1024 * startSent h grid c → next ≡ at + 1024 * blocksFor (length (cellsSent h grid c))
+      → next ≡ 1024 * startSent h grid (c + 1)
+  next-start c at next e f = rw (add-one c, start-next h grid c) (omega (arith, e, f))
+
+  -- behind the last column nothing is left
+  pub all-there : (n at long : ℕ) → at ≡ 1024 * startSent h grid n → n ≡ columnsOf h → long ≡ 1024 * blockCount h grid → at ≡ long
+  all-there n at long e f g = e ∙ ap (λ (k : ℕ). 1024 * startSent h grid k) f ∙ sym g
+
+  -- block 0 and every column's: nothing else is left of the buffer
+  pub whole-put : (template : List ℕ) {before out after : List ℕ} {end : ℕ} → Puts before 0 (blockZero template h grid) out 1024
+      → Puts out 1024 (columnsText h grid (columnsOf h)) after end → end ≡ length out → after ≡ wholeText template h grid
+  unfolding wholeText
+  whole-put template {before} {out} {after} {end} p q e =
+      sym (take-all end after (omega (arith, e, q .kept))) ∙ both p q .text
+
+-- ---- the blocks of the sheet, in order
+
+module _ (template : List ℕ) (h : Header) (grid : List ℤ) where
+  abbrev sent : ℕ → List ℕ
+  sent = blockSent template h grid
+
+  zero-is : sent 0 ≡ blockZero template h grid
+  unfolding blockSent
+  zero-is = refl
+
+  -- block q of a column's profile
+  profile-is : (c q : ℕ) → c < columnsOf h → q < blocksFor (length (cellsSent h grid c))
+      → sent (startSent h grid c + q) ≡ profileBlock h grid c q
+  unfolding blockSent
+  profile-is c q lt less =
+      let number = startSent h grid c + q in
+      let n : eqb number 0 ≡ false = ne-eqb number 0 (λ z. omega (arith, z, start-from h grid c)) in
+      let w : columnWith h grid (columnsOf h) number ≡ c
+      = column-with h grid (columnsOf h) c number lt (omega arith) (omega (arith, less, start-next h grid c)) in
+      let d : number - startSent h grid c ≡ q = omega arith in
+      (λ i. cond (n i) (blockZero template h grid) (profileBlock h grid (w i) (number - startSent h grid (w i))))
+      ∙ ap (profileBlock h grid c) d
+
+  -- the blocks from a column's start on are its profile's
+  column-is : (c : ℕ) → c < columnsOf h
+      → joined (map sent (from (startSent h grid c) (blocksFor (length (cellsSent h grid c))))) ≡ columnText h grid c
+  column-is c lt =
+      ap joined
+      (map-shift sent (profileBlock h grid c) (startSent h grid c) 0 (blocksFor (length (cellsSent h grid c)))
+      (λ q less. let e : q ≡ 0 + q = omega arith in profile-is c q lt less ∙ ap (profileBlock h grid c) e))
+
+  columns-are : (n : ℕ) → n ≤ columnsOf h
+      → joined (map sent (below (startSent h grid n))) ≡ blockZero template h grid ++ columnsText h grid n
+  columns-are zero le =
+      ap (λ (k : ℕ). joined (map sent (below k))) (first-start h grid) ∙ ap (λ (l : List ℕ). l ++ []) zero-is
+  columns-are (suc n) le =
+      let s = startSent h grid n in
+      let b = blocksFor (length (cellsSent h grid n)) in
+      let z : 0 + s ≡ s = omega arith in
+      ap (λ (k : ℕ). joined (map sent (below k))) (start-next h grid n)
+      ∙ ap (λ (l : List ℕ). joined (map sent l)) (from-append 0 s b)
+      ∙ ap joined (map-append sent (below s) (from (0 + s) b))
+      ∙ joined-append (map sent (below s)) (map sent (from (0 + s) b))
+      ∙ ap (λ (a : ℕ). joined (map sent (below s)) ++ joined (map sent (from a b))) z
+      ∙ ap₂ (λ (x y : List ℕ). x ++ y) (columns-are n (omega (arith, le))) (column-is n le)
+      ∙ append-brackets (blockZero template h grid) (columnsText h grid n) (columnText h grid n)
+      ∙ ap (λ (l : List ℕ). blockZero template h grid ++ l) (joined-more (columnText h grid) n)
+
+  -- "the same bytes as the single calls in order"
+  pub whole-is : wholeText template h grid ≡ joined (map (blockSent template h grid) (below (blockCount h grid)))
+  unfolding wholeText
+  whole-is = sym (columns-are (columnsOf h) (omega arith))

@@ -1,0 +1,58 @@
+-- Block 0 in the buffer's first stretch, the columns behind it: WholeText has the whole buffer.
+use mathlib.Core.Path.{refl}
+use native.Mathlib.Omega.{arith}
+use lib.ListN.{length}
+use Prim.Native.Nat.{_≤_}
+use Rattle.written.specs.Blocks.{blockZero}
+use Rattle.written.proofs.SheetSent.{start-from}
+use Rattle.sheet.specs.RecordA.{columnsOf}
+use Rattle.send.proofs.WholeText.{block-put, whole-put}
+use borrow.Author.Needs.{needs}
+use Rattle.send.proofs.whole_sheet.write_blocks.Statement.{statement}
+use Rattle.send.proofs.whole_sheet.write_blocks.Tie as tie
+
+room : (s : tie.Start) → 1024 ≤ length (s .args .out .now)
+room s = omega (arith, s .pre .room, start-from (s .args .h) (s .args .grid .now) (columnsOf (s .args .h)))
+
+sub-write-block-zero : tie.Need-sub-write-block-zero
+sub-write-block-zero c = search needs
+
+part-write-block-zero-start : tie.Need-part-write-block-zero-start
+part-write-block-zero-start c = search needs
+
+part-write-block-zero-end : tie.Need-part-write-block-zero-end
+part-write-block-zero-end c = room (c .before .before)
+
+write-block-zero-requires : tie.Need-write-block-zero-requires
+write-block-zero-requires c κs = search needs
+
+write-columns-requires : tie.Need-write-columns-requires
+write-columns-requires c κs = search needs
+
+same-length : tie.Need-same-length
+same-length c = search needs
+
+returns : tie.Need-returns
+returns c =
+    let w = c .before .before in
+    let z = w .before .before .before .before in
+    let s = z .before .before .before .before in
+    let h = s .args .h in
+    let grid = s .args .grid .now in
+    let zero = blockZero (s .args .template .now) h grid in
+    whole-put h grid (s .args .template .now)
+    (block-put (s .args .out .now) zero 0 1024 (room s) refl (z .write-block-zero .last .1 .1 .1 .0) (z .write-block-zero .ensures) (z .write-block-zero .kept .1 .1 .1 .0))
+    (w .write-columns .ensures .0)
+    (w .write-columns .ensures .1)
+
+pub write-blocks-spec : {M : Type 1} → statement M
+write-blocks-spec =
+    tie.close
+    (tie.spec
+    sub-write-block-zero
+    part-write-block-zero-start
+    part-write-block-zero-end
+    write-block-zero-requires
+    write-columns-requires
+    same-length
+    returns)
