@@ -37,7 +37,7 @@ fn cells_of(h: Header) -> u64
     columns.count * rows.count
 }
 
-fn is_complete(s: Session) -> bool
+pub fn is_complete(s: Session) -> bool
     ensures { λ r. ⌜ r ≡ complete s ⌝ }
 {
     let h = s.header;

@@ -42,8 +42,9 @@ use Rattle.profile.specs.RecordC.{recordC}
 use Rattle.profile.specs.declared.record_b.Headed.{Headed}
 use Rattle.session.specs.Session.{fresh, sound}
 use Rattle.session.specs.declared.Session.{Session}
-use Rattle.load.specs.Deliver.{deliverOf, cellsAfter}
+use Rattle.load.specs.Deliver.{complete, deliverOf, cellsAfter}
 use Rattle.load.specs.declared.Delivered.{Delivered}
+use Rattle.lines.specs.Lines.{reportText, refusedText, unfinishedText, endText, used, written}
 use Rattle.written.specs.Sending.{blockFault, blockAfter, countOf}
 use Rattle.send.specs.SendSteps.{sentBy, sheetSentFault, sheetAfter}
 use Rattle.send.specs.declared.Sent.{Sent}
@@ -186,3 +187,30 @@ write-sheet template grid out = one-answer
 pub write-sheet-bytes : (template : List ℕ) (grid : List ℤ) (out : List ℕ) {a b : List ℕ} → a ≡ sheetAfter template grid out
     → b ≡ sheetAfter template grid out → a ≡ b
 write-sheet-bytes template grid out = one-answer
+
+pub is-complete : (s : Session) {a b : Bool} → a ≡ complete s → b ≡ complete s → a ≡ b
+is-complete s = one-answer
+
+pub put-report : (s : Session) (out : List ℕ) {a b : ℕ} → a ≡ used (reportText s) out → b ≡ used (reportText s) out → a ≡ b
+put-report s out = one-answer
+
+pub put-report-bytes : (s : Session) (out : List ℕ) {a b : List ℕ} → a ≡ written (reportText s) out → b ≡ written (reportText s) out → a ≡ b
+put-report-bytes s out = one-answer
+
+pub put-refusal : (kind block byte : ℕ) (out : List ℕ) {a b : ℕ} → a ≡ used (refusedText kind block byte) out → b ≡ used (refusedText kind block byte) out → a ≡ b
+put-refusal kind block byte out = one-answer
+
+pub put-refusal-bytes : (kind block byte : ℕ) (out : List ℕ) {a b : List ℕ} → a ≡ written (refusedText kind block byte) out → b ≡ written (refusedText kind block byte) out → a ≡ b
+put-refusal-bytes kind block byte out = one-answer
+
+pub put-unfinished : (taken : ℕ) (out : List ℕ) {a b : ℕ} → a ≡ used (unfinishedText taken) out → b ≡ used (unfinishedText taken) out → a ≡ b
+put-unfinished taken out = one-answer
+
+pub put-unfinished-bytes : (taken : ℕ) (out : List ℕ) {a b : List ℕ} → a ≡ written (unfinishedText taken) out → b ≡ written (unfinishedText taken) out → a ≡ b
+put-unfinished-bytes taken out = one-answer
+
+pub put-end : (s : Session) (out : List ℕ) {a b : ℕ} → a ≡ used (endText s) out → b ≡ used (endText s) out → a ≡ b
+put-end s out = one-answer
+
+pub put-end-bytes : (s : Session) (out : List ℕ) {a b : List ℕ} → a ≡ written (endText s) out → b ≡ written (endText s) out → a ≡ b
+put-end-bytes s out = one-answer

@@ -1,0 +1,161 @@
+// The lister's lines: document 01, "The lister, and one sheet". A text is built in a scratch array, then given to the lent bytes.
+mod pieces;
+
+use session::Session;
+use sheet::record_a;
+use sheet::record_a::Header;
+ghost use mathlib.Core.Path.{_≡_};
+ghost use Prim.Native.Nat.{_+_, _-_, _≤_};
+ghost use lib.ListN.{length};
+ghost use Rattle.lines.specs.Lines.{sheetLine, headLine, postsLine, extreme, rangeLine, endLine, reportText, refusedText, unfinishedText, ended, endText, Given};
+ghost use Rattle.lines.specs.Pieces.{Within};
+
+// A unit and a hundredth in billionths.
+const UNIT: u64 = 1000000000;
+
+const HUNDREDTH: u64 = 10000000;
+
+fn sheet_line(text: &mut [u8], rows: u64, columns: u64, x: u64, y: u64, z: u64) -> usize
+    requires { ⌜ 216 ≤ length (now text) ⌝ }
+    ensures { λ r. ⌜ Within 216 (now (text .entry)) 0 (sheetLine rows columns x y z) (now (text .exit)) r ⌝ }
+{
+    let a = pieces::put_number(text, 0, b"sheet ", rows);
+    let b = pieces::put_number(text, a, b" ", columns);
+    let c = pieces::put_number(text, b, b" ", x);
+    let d = pieces::put_number(text, c, b" ", y);
+    let e = pieces::put_units(text, d, b" ", z);
+    pieces::put_word(text, e, b"\n")
+}
+
+fn head_line(text: &mut [u8], h: Header) -> usize
+    requires { ⌜ 216 ≤ length (now text) ⌝ }
+    ensures { λ r. ⌜ Within 216 (now (text .entry)) 0 (headLine h) (now (text .exit)) r ⌝ }
+{
+    let rows = record_a::row_lattice(h);
+    let columns = record_a::column_lattice(h);
+    sheet_line(
+        text,
+        rows.count,
+        columns.count,
+        h.xstep / UNIT,
+        h.ystep / UNIT,
+        h.zstep / HUNDREDTH,
+    )
+}
+
+fn voids_of(posts: u64, filled: u64) -> u64
+    ensures { λ r. ⌜ r ≡ posts - filled ⌝ }
+{
+    if posts < filled {
+        return 0;
+    }
+    posts - filled
+}
+
+fn posts_line(text: &mut [u8], at: usize, posts: u64, filled: u64) -> usize
+    requires { ⌜ at + 108 ≤ length (now text) ⌝ }
+    ensures { λ r. ⌜ Within 108 (now (text .entry)) at (postsLine posts filled) (now (text .exit)) r ⌝ }
+{
+    let a = pieces::put_number(text, at, b"posts ", posts);
+    let b = pieces::put_number(text, a, b" void ", voids_of(posts, filled));
+    pieces::put_word(text, b, b"\n")
+}
+
+fn extreme_of(filled: u64, z: i64) -> i64
+    ensures { λ r. ⌜ r ≡ extreme filled z ⌝ }
+{
+    if filled == 0 {
+        return 0;
+    }
+    z
+}
+
+fn range_line(text: &mut [u8], at: usize, filled: u64, low: i64, high: i64) -> usize
+    requires { ⌜ at + 108 ≤ length (now text) ⌝ }
+    ensures { λ r. ⌜ Within 108 (now (text .entry)) at (rangeLine filled low high) (now (text .exit)) r ⌝ }
+{
+    let a = pieces::put_height(text, at, b"range ", extreme_of(filled, low));
+    let b = pieces::put_height(text, a, b" ", extreme_of(filled, high));
+    pieces::put_word(text, b, b"\n")
+}
+
+fn end_line(text: &mut [u8], at: usize, taken: u64) -> usize
+    requires { ⌜ at + 72 ≤ length (now text) ⌝ }
+    ensures { λ r. ⌜ Within 72 (now (text .entry)) at (endLine taken) (now (text .exit)) r ⌝ }
+{
+    let a = pieces::put_number(text, at, b"end ", taken);
+    pieces::put_word(text, a, b"\n")
+}
+
+fn report(text: &mut [u8], s: Session) -> usize
+    requires { ⌜ 512 ≤ length (now text) ⌝ }
+    ensures { λ r. ⌜ Within 504 (now (text .entry)) 0 (reportText s) (now (text .exit)) r ⌝ }
+{
+    let h = s.header;
+    let posts = head_line(text, h);
+    let range = posts_line(text, posts, s.posts, s.filled);
+    let end = range_line(text, range, s.filled, s.low, s.high);
+    end_line(text, end, s.taken)
+}
+
+fn refusal(text: &mut [u8], kind: u32, block: u64, byte: u32) -> usize
+    requires { ⌜ 512 ≤ length (now text) ⌝ }
+    ensures { λ r. ⌜ Within 144 (now (text .entry)) 0 (refusedText kind block byte) (now (text .exit)) r ⌝ }
+{
+    let a = pieces::put_number(text, 0, b"refused ", kind as u64);
+    let b = pieces::put_number(text, a, b" ", block);
+    let c = pieces::put_number(text, b, b" ", byte as u64);
+    pieces::put_word(text, c, b"\n")
+}
+
+fn unfinished(text: &mut [u8], taken: u64) -> usize
+    requires { ⌜ 512 ≤ length (now text) ⌝ }
+    ensures { λ r. ⌜ Within 72 (now (text .entry)) 0 (unfinishedText taken) (now (text .exit)) r ⌝ }
+{
+    let a = pieces::put_number(text, 0, b"unfinished ", taken);
+    pieces::put_word(text, a, b"\n")
+}
+
+// The four lines of a sheet. Answers the bytes used; none, and nothing changed, where they do not fit. So do the others below.
+pub fn put_report(s: Session, out: &mut [u8]) -> usize
+    ensures { λ r. ⌜ Given (reportText s) (now (out .entry)) (now (out .exit)) r ⌝ }
+{
+    let mut text = [0u8; 512];
+    let end = report(&mut text, s);
+    pieces::give(&text[0..end], out)
+}
+
+pub fn put_refusal(kind: u32, block: u64, byte: u32, out: &mut [u8]) -> usize
+    ensures { λ r. ⌜ Given (refusedText kind block byte) (now (out .entry)) (now (out .exit)) r ⌝ }
+{
+    let mut text = [0u8; 512];
+    let end = refusal(&mut text, kind, block, byte);
+    pieces::give(&text[0..end], out)
+}
+
+pub fn put_unfinished(taken: u64, out: &mut [u8]) -> usize
+    ensures { λ r. ⌜ Given (unfinishedText taken) (now (out .entry)) (now (out .exit)) r ⌝ }
+{
+    let mut text = [0u8; 512];
+    let end = unfinished(&mut text, taken);
+    pieces::give(&text[0..end], out)
+}
+
+fn is_ended(s: Session) -> bool
+    ensures { λ r. ⌜ r ≡ ended s ⌝ }
+{
+    if s.taken == 0 {
+        return false;
+    }
+    load::is_complete(s)
+}
+
+// What the end of the input prints: the report of a complete sheet, else how many blocks were taken.
+pub fn put_end(s: Session, out: &mut [u8]) -> usize
+    ensures { λ r. ⌜ Given (endText s) (now (out .entry)) (now (out .exit)) r ⌝ }
+{
+    if is_ended(s) {
+        return put_report(s, out);
+    }
+    put_unfinished(s.taken, out)
+}

@@ -1,0 +1,60 @@
+-- Document 01, "The lister, and one sheet": what a lister makes of each block of its input, and what it prints at last.
+use mathlib.Core.Bool.{cond}
+use mathlib.Core.List.{List}
+use mathlib.Core.Path.{_≡_}
+use Prim.Native.Nat.{ℕ, _+_, _^_, _≤_}
+use lib.Dec.{eqb}
+use lib.IntN.{ℤ}
+use lib.ListN.{length}
+use Rattle.session.specs.Session.{fresh}
+use Rattle.session.specs.declared.Session.{Session}
+use Rattle.load.specs.Deliver.{deliverOf, cellsAfter}
+use Rattle.load.specs.declared.Answer.{Answer}
+use Rattle.load.specs.declared.Answer.the-variants.{Taken, Held, Refused}
+use Rattle.lines.specs.Lines.{refusedText, endText}
+use Rattle.listing.specs.declared.Turn.{Turn}
+
+-- the stages: 0 more may follow, 1 the input is at its end, 2 a block was refused
+abbrev pub turn : Session → ℕ → ℕ → ℕ → ℕ → Turn
+turn s stage kind block byte = record { session = s; stage = stage; kind = kind; block = block; byte = byte }
+
+-- a refusal ends the listing, any other answer goes on
+abbrev pub turnAfter : Session → Answer → Turn
+turnAfter s Taken = turn s 0 0 0 0
+turnAfter s Held = turn s 0 0 0 0
+turnAfter s (Refused kind block byte) = turn s 2 kind block byte
+
+-- the next bytes of the input, of which there are none at its end; a short block is delivered as it is, and refused
+abbrev pub stepOf : Session → ℕ → List ℕ → List ℤ → Turn
+stepOf s number block grid =
+    cond (eqb (length block) 0) (turn s 1 0 0 0)
+    (turnAfter (deliverOf s number block grid .session) (deliverOf s number block grid .answer))
+
+abbrev pub cellsOf : Session → ℕ → List ℕ → List ℤ → List ℤ
+cellsOf s number block grid = cond (eqb (length block) 0) grid (cellsAfter s number block grid)
+
+-- what a turn promises: where the listing stands, and every cell
+abbrev pub Steps : Session → ℕ → List ℕ → List ℤ → List ℤ → Turn → Type 0
+Steps s number block before after t = (t ≡ stepOf s number block before) × (after ≡ cellsOf s number block before)
+
+-- some next bytes of the input, at most a block, were taken
+pub record Took (s : Session) (number : ℕ) (before after : List ℤ) (t : Turn) : Type 0 where
+  pub block : List ℕ
+  pub short : length block ≤ 1024
+  pub steps : Steps s number block before after t
+
+-- where a listing can come to in n turns: a fresh session at first, then blocks numbered 0, 1, 2, .. while more may follow
+pub data Reached (grid : List ℤ) : ℕ → Turn → List ℤ → Type 0 where
+  first : Reached grid 0 (turn fresh 0 0 0 0) grid
+  next : {n : ℕ} {t : Turn} {g h : List ℤ} {u : Turn} → Reached grid n t g → t .stage ≡ 0 → Took (t .session) n g h u
+      → Reached grid (n + 1) u h
+
+-- no more may follow, unless the numbers are used up
+pub record Listed (before after : List ℤ) (t : Turn) : Type 0 where
+  pub turns : ℕ
+  pub reached : Reached before turns t after
+  pub last : t .stage ≡ 0 → 2 ^ 64 ≤ turns + 1
+
+-- "A refusal prints only .."; else the end of the input
+unfoldable pub lastText : Turn → List ℕ
+lastText t = cond (eqb (t .stage) 2) (refusedText (t .kind) (t .block) (t .byte)) (endText (t .session))
