@@ -1,7 +1,9 @@
-//! Asks a program for answers over a pipe, many at a time: `examples/answers.c` says the format.
+//! Asks a program for answers over a pipe, many at a time: `examples/answers.c` says the format. How a comparison by such
+//! answers begins and ends stands here too.
 
+use crate::dice::Dice;
 use std::io::{BufWriter, Read, Write};
-use std::process::{Child, ChildStdin, ChildStdout, Command, Stdio};
+use std::process::{exit, Child, ChildStdin, ChildStdout, Command, Stdio};
 
 /// Neither pipe may be full with both sides writing: so many bytes of questions, and far fewer of answers, fit.
 const MOST_WAITING: usize = 30_000;
@@ -14,7 +16,20 @@ pub struct Asking {
 }
 
 impl Asking {
-    pub fn of(program: &str) -> Result<Asking, String> {
+    /// PROGRAM [SEED]: the program asked, and dice of the seed. Other arguments end the run with status 2.
+    pub fn begin(usage: &str, usual_seed: u64) -> (Asking, Dice) {
+        let given: Vec<String> = std::env::args().skip(1).collect();
+        let seed = given.get(1).map_or(Ok(usual_seed), |text| text.parse());
+        let (Some(program), Ok(seed), true) = (given.first(), seed, given.len() <= 2) else {
+            println!("usage: {usage}");
+            exit(2);
+        };
+        println!("seed {seed}");
+        let asking = Asking::of(program).unwrap_or_else(|fault| end_badly(&[fault]));
+        (asking, Dice::new(seed))
+    }
+
+    fn of(program: &str) -> Result<Asking, String> {
         let started = Command::new(program)
             .stdin(Stdio::piped())
             .stdout(Stdio::piped())
@@ -57,8 +72,19 @@ impl Asking {
         taken
     }
 
+    /// Ends a run in which nothing differed: with status 1 where it left something out, or the program ends badly.
+    pub fn end(self, shortcomings: &[String]) {
+        if !shortcomings.is_empty() {
+            end_badly(shortcomings);
+        }
+        if let Err(fault) = self.done() {
+            end_badly(&[fault]);
+        }
+        println!("no difference");
+    }
+
     /// The program must end well once it is asked nothing more.
-    pub fn done(self) -> Result<(), String> {
+    fn done(self) -> Result<(), String> {
         let Asking {
             mut child,
             questions,
@@ -73,6 +99,13 @@ impl Asking {
             Err(fault) => Err(format!("the program asked was lost: {fault}")),
         }
     }
+}
+
+fn end_badly(faults: &[String]) -> ! {
+    for fault in faults {
+        println!("this run does not count: {fault}");
+    }
+    exit(1);
 }
 
 /// A number of four bytes, the least first, from a place.

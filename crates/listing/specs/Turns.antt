@@ -55,6 +55,11 @@ pub record Listed (before after : List ℤ) (t : Turn) : Type 0 where
   pub reached : Reached before turns t after
   pub last : t .stage ≡ 0 → 2 ^ 64 ≤ turns + 1
 
+-- the cells are those that the listing of some input leaves: which input it was, no contract can say
+pub record Lists (before after : List ℤ) : Type 0 where
+  pub last : Turn
+  pub listed : Listed before after last
+
 -- "A refusal prints only .."; else the end of the input
 unfoldable pub lastText : Turn → List ℕ
 lastText t = cond (eqb (t .stage) 2) (refusedText (t .kind) (t .block) (t .byte)) (endText (t .session))

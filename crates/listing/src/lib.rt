@@ -6,7 +6,7 @@ use load::Delivered;
 use session::Session;
 ghost use mathlib.Core.Path.{_≡_};
 ghost use Rattle.lines.specs.Lines.{Given};
-ghost use Rattle.listing.specs.Turns.{turn, turnAfter, lastText, Steps, Took, Listed};
+ghost use Rattle.listing.specs.Turns.{turn, turnAfter, lastText, Steps, Took, Listed, Lists};
 
 const MORE: u8 = 0;
 
@@ -105,7 +105,9 @@ pub fn put_last(t: Turn, out: &mut [u8]) -> usize
 }
 
 // The input, one call for each block, the output.
-pub fn list(grid: &mut [i32]) {
+pub fn list(grid: &mut [i32])
+    ensures { λ _. ⌜ Lists (now (grid .entry)) (now (grid .exit)) ⌝ }
+{
     let t = all_blocks(grid);
     let mut out = [0u8; 512];
     let used = put_last(t, &mut out);

@@ -3,7 +3,6 @@
 //! Status 0: no difference. Status 1: a difference, or too little was compared.
 
 use second::asking::{eight, four, Asking};
-use second::dice::Dice;
 use second::number;
 use second::texts::FAMILIES;
 use std::process::exit;
@@ -95,16 +94,6 @@ fn count(tally: &mut Tally, kind: u32) {
     tally[place.expect("number.rs answers only the kinds of the table")] += 1;
 }
 
-fn seed_asked_for() -> u64 {
-    match std::env::args().nth(2) {
-        None => USUAL_SEED,
-        Some(given) => given.parse().unwrap_or_else(|_| {
-            println!("the seed is a whole number from 0 to {}", u64::MAX);
-            exit(2);
-        }),
-    }
-}
-
 fn print_table(comparison: &Comparison) {
     println!("texts compared {}", comparison.texts);
     println!("{:>5} {:>10} {:>10}", "kind", "integers", "reals");
@@ -152,14 +141,7 @@ fn shortcomings(comparison: &Comparison) -> Vec<String> {
 }
 
 fn main() {
-    let Some(program) = std::env::args().nth(1) else {
-        println!("compare_fields PROGRAM [SEED]");
-        exit(2);
-    };
-    let seed = seed_asked_for();
-    println!("seed {seed}");
-    let mut dice = Dice::new(seed);
-    let desk = Asking::of(&program).unwrap_or_else(|fault| end_badly(&fault));
+    let (desk, mut dice) = Asking::begin("compare_fields PROGRAM [SEED]", USUAL_SEED);
     let mut comparison = Comparison {
         texts: 0,
         integers: Tally::default(),
@@ -175,19 +157,5 @@ fn main() {
     comparison.hold_against();
     print_table(&comparison);
     let found = shortcomings(&comparison);
-    for shortcoming in &found {
-        println!("too little compared: {shortcoming}");
-    }
-    if !found.is_empty() {
-        exit(1);
-    }
-    if let Err(fault) = comparison.desk.done() {
-        end_badly(&fault);
-    }
-    println!("no difference");
-}
-
-fn end_badly(fault: &str) -> ! {
-    println!("{fault}");
-    exit(1);
+    comparison.desk.end(&found);
 }

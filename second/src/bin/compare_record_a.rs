@@ -3,7 +3,6 @@
 //! little was compared.
 
 use second::asking::{four, Asking};
-use second::dice::Dice;
 use second::headers::FAMILIES;
 use second::record_a;
 use std::collections::BTreeMap;
@@ -147,25 +146,8 @@ fn print_tables(comparison: &Comparison) {
     println!("name lengths {:?}", comparison.name_lengths);
 }
 
-fn seed_asked_for() -> u64 {
-    match std::env::args().nth(2) {
-        None => USUAL_SEED,
-        Some(given) => given.parse().unwrap_or_else(|_| {
-            println!("the seed is a whole number from 0 to {}", u64::MAX);
-            exit(2);
-        }),
-    }
-}
-
 fn main() {
-    let Some(program) = std::env::args().nth(1) else {
-        println!("compare_record_a PROGRAM [SEED]");
-        exit(2);
-    };
-    let seed = seed_asked_for();
-    println!("seed {seed}");
-    let mut dice = Dice::new(seed);
-    let desk = Asking::of(&program).unwrap_or_else(|fault| end_badly(&fault));
+    let (desk, mut dice) = Asking::begin("compare_record_a PROGRAM [SEED]", USUAL_SEED);
     let mut comparison = Comparison {
         blocks: 0,
         faults: BTreeMap::new(),
@@ -182,19 +164,5 @@ fn main() {
     comparison.hold_against();
     print_tables(&comparison);
     let found = shortcomings(&comparison);
-    for shortcoming in &found {
-        println!("this run does not count: {shortcoming}");
-    }
-    if !found.is_empty() {
-        exit(1);
-    }
-    if let Err(fault) = comparison.desk.done() {
-        end_badly(&fault);
-    }
-    println!("no difference");
-}
-
-fn end_badly(fault: &str) -> ! {
-    println!("{fault}");
-    exit(1);
+    comparison.desk.end(&found);
 }

@@ -1,4 +1,4 @@
--- The text is no longer than what is written from.
+-- The text is no longer than what is written from; the cells are those that the blocks left.
 use mathlib.Core.Path.{sym}
 use native.Mathlib.Omega.{arith}
 use lib.ListN.{length, replicate}
@@ -39,7 +39,9 @@ same-length : tie.Need-same-length
 same-length c = search needs
 
 returns : tie.Need-returns
-returns c = search needs
+returns c =
+    let blocks = c .before .before .before .before .before .before .all-blocks in
+    record { last = blocks .result; listed = blocks .ensures }
 
 pub list-spec : {M : Type 1} → statement M
 list-spec =
