@@ -15,7 +15,7 @@ use Rattle.session.specs.declared.Session.{Session}
 use Rattle.load.specs.Posts.{sameZ}
 use Rattle.load.specs.Deliver.{Verdict, wrong, begins, fills, closeFault, closeVerdict, closedSession, filling, nextCell, refusal}
 use Rattle.meaning.specs.Text.{blocksIn, headerIn, profilesIn, startOf, headIn, postsIn, heightsIn, allHeights, columnIn}
-use Rattle.meaning.specs.Rules.{Breach, breach, none, rule, firstBroken, when, leastStated, greatestStated, closingRules, sheetRules, isWhole, endOf}
+use Rattle.meaning.specs.Rules.{Breach, breach, rule, firstBroken, when, leastStated, greatestStated, closingRules, sheetRules, isWhole, endOf}
 use Rattle.meaning.specs.Means.{isOpen, openProfile, begunSession}
 use Rattle.meaning.proofs.Starts.{next-start, start-order}
 use Rattle.meaning.proofs.Joined.{Extends, Here, header-same, same-start, newHeights}

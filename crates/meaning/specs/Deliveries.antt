@@ -1,5 +1,5 @@
 -- Demand 3 over the joined text: what a delivery is answered, said without a session; any reader; and a list of deliveries.
-use mathlib.Core.Bool.{Bool, true, false, cond, not}
+use mathlib.Core.Bool.{cond, not}
 use mathlib.Core.List.{List, [], _∷_, _++_}
 use mathlib.Core.Path.{_≡_}
 use Prim.Native.Nat.{ℕ, _≤_}

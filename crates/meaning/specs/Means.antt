@@ -1,5 +1,5 @@
 -- What a text that breaks no rule means: its session and its grid. Counts are counts of posts and blocks of the text.
-use mathlib.Core.Bool.{Bool, true, false, cond}
+use mathlib.Core.Bool.{Bool, false, cond}
 use mathlib.Core.List.{List, _++_, map}
 use Prim.Native.Nat.{ℕ, zero, suc}
 use lib.IntN.{ℤ}

@@ -1,5 +1,5 @@
 -- Which texts break no rule of document 01, and which rule a text breaks first: whole records, each with all its blocks.
-use mathlib.Core.Bool.{Bool, true, false, cond}
+use mathlib.Core.Bool.{Bool, false, cond}
 use mathlib.Core.List.{List, [], _∷_, _++_, map}
 use Prim.Native.Nat.{ℕ, zero, suc, _+_, _*_, _-_, min}
 use lib.IntN.{ℤ, pos, _*ℤ_}

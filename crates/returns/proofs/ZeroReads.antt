@@ -20,7 +20,7 @@ use Rattle.spell.proofs.Fits.{fits-real, integer-length, integer-fits, real-len
 use Rattle.spell.proofs.ReadBack.{integer-back, real-back, spacing-back}
 use Rattle.spell.proofs.Texts.{minus-short}
 use Rattle.sheet.specs.Lattice.{notNegative}
-use Rattle.sheet.specs.RecordA.{Row, row, rows, fields, judge, judgeRow, firstFault, faultOf, recordA, headerOf, stretch, inRange, ranged, limits, zoneLimits, groundLimits, heightLimits, billion, columnsOf, rowsOf, west, east, south, north, oneTo2048, wholeFault, wholeAt}
+use Rattle.sheet.specs.RecordA.{Row, rows, fields, judge, judgeRow, firstFault, faultOf, recordA, headerOf, stretch, inRange, ranged, limits, zoneLimits, groundLimits, heightLimits, billion, columnsOf, rowsOf, west, east, south, north, oneTo2048, wholeFault, wholeAt}
 use Rattle.sheet.specs.RecordA.Rule.{words, form}
 use Rattle.sheet.specs.RecordASteps.{rowAt}
 use Rattle.sheet.specs.declared.record_a.Checked.the-variants.{Sheet, Refused}

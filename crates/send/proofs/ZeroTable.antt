@@ -15,7 +15,7 @@ use lib.IntN.{ℤ, pos}
 use lib.ListN.{length, take, drop, getD, length-drop}
 use lib.Seq.{length-take-le}
 use Rattle.laws.specs.Sign.{_and_}
-use Rattle.laws.proofs.Tables.{all, all-at, and-left, and-right}
+use Rattle.laws.proofs.Tables.{all-at, and-left, and-right}
 use Rattle.sheet.specs.declared.record_a.Header.{Header}
 use Rattle.spell.specs.Spell.{integerFits, realFits}
 use Rattle.spell.proofs.Fits.{integer-length, real-length}

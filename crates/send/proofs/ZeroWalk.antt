@@ -2,33 +2,31 @@
 use mathlib.Core.Bool.{Bool, true, false, cond}
 use mathlib.Core.List.{List, [], _∷_, _++_, map, append-assoc, append-nil}
 use mathlib.Core.Path.{_≡_, refl, sym, _∙_, ap}
-use Prim.Native.Nat.{ℕ, zero, suc, _+_, _*_, _-_, _/_, _%_, _^_, _≤_, _<_}
-use native.Mathlib.Nat.{le-of-suc-le-suc, not-suc-le-zero}
+use Prim.Native.Nat.{ℕ, zero, suc, _+_, _*_, _-_, _^_, _≤_, _<_}
 use native.Mathlib.Numerals.{add-one}
 use native.Mathlib.Omega.{arith}
 use borrow.Author.Tests.{leb-true, ltb-true}
 use borrow.Rule.Slice.PartMut.{putMid, same-len-mid}
-use lib.Dec.{T, leb, ltb, eqb}
+use lib.Dec.{leb, ltb, eqb}
 use lib.IntN.{ℤ, pos, natAbs}
 use lib.ListN.{length, take, drop, getD, length-append, length-drop, drop-of-length-le, List·getD-map}
 use lib.Seq.{take-at, take-all, length-take-le, drop-cons}
 use Rattle.laws.specs.Sign.{_and_}
-use Rattle.laws.specs.Digits.{short}
 use Rattle.laws.proofs.Tables.{all}
 use Rattle.laws.proofs.Tests.{and-first, and-second, and-both}
-use Rattle.sheet.specs.RecordA.{limits, zoneLimits, groundLimits, inRange, billion}
+use Rattle.sheet.specs.RecordA.{limits, inRange, billion}
 use Rattle.sheet.specs.declared.record_a.Corner.{Corner}
 use Rattle.sheet.specs.declared.record_a.Header.{Header}
 use Rattle.sheet.specs.declared.record_a.Limits.{Limits}
-use Rattle.session.specs.Session.{isRealNumber, cornerReal, realsObey, headerObeys}
-use Rattle.session.proofs.Facts.{Heading, Ranged, Height, header-facts}
+use Rattle.session.specs.Session.{isRealNumber, cornerReal, headerObeys}
+use Rattle.session.proofs.Facts.{Ranged, Height, header-facts}
 use Rattle.spell.specs.Spell.{integerFits, realFits}
 use Rattle.spell.proofs.Fits.{fits-real, integer-fits, whole-spacing-fits, fine-spacing-fits, thousands-fit}
 use Rattle.spell.proofs.Texts.{minus-short}
 use Rattle.meaning.specs.Text.{joined}
 use Rattle.written.specs.Blocks.{Piece, pieceText}
 use Rattle.send.specs.ZeroSteps.{piecesBy, zeroBy, stretchAt, numberIn, numbersBy, within, textBy, pieceBy}
-use Rattle.send.proofs.ZeroTable.{nothing, suits, fits, text-is, text-length, pieces-many, piece-suits, stretch-inside, stretch-next, first-start, last-end}
+use Rattle.send.proofs.ZeroTable.{nothing, fits, text-is, text-length, pieces-many, piece-suits, stretch-inside, stretch-next, first-start, last-end}
 
 -- ---- every number fits its field
 

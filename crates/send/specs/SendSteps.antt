@@ -1,9 +1,9 @@
 -- How the writer takes its work apart: contracts of private functions, and the cases of its answers. The public promises cite
 -- `sentBy`, `blockFault`, `blockAfter` and `countOf`, `sheetSentFault`, `sheetAfter` alone.
-use mathlib.Core.Bool.{Bool, true, false, cond}
+use mathlib.Core.Bool.{true, cond}
 use mathlib.Core.List.{List}
 use mathlib.Core.Path.{_≡_}
-use Prim.Native.Nat.{ℕ, _+_, _*_, _≤_, _<_}
+use Prim.Native.Nat.{ℕ, _*_, _≤_, _<_}
 use lib.Dec.{eqb}
 use lib.IntN.{ℤ}
 use lib.ListN.{length}

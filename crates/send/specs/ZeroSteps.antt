@@ -1,5 +1,5 @@
 -- How the code writes block 0: its stretches as columns of numbers, one entry for each, and the text that one turn puts there.
-use mathlib.Core.Bool.{Bool, true, cond}
+use mathlib.Core.Bool.{Bool, cond}
 use mathlib.Core.List.{List, [], _∷_, _++_, map}
 use Prim.Native.Nat.{ℕ}
 use borrow.Rule.Slice.PartMut.{putMid}

@@ -1,7 +1,7 @@
 -- Document 01, "Writing": the cells that can be sent, and each column as one profile.
 use mathlib.Core.Bool.{Bool, true, false, cond}
 use mathlib.Core.List.{List, [], _∷_}
-use Prim.Native.Nat.{ℕ, zero, suc, _+_, _*_, _-_, _/_, _%_}
+use Prim.Native.Nat.{ℕ, zero, suc, _+_, _*_, _/_, _%_}
 use lib.IntN.{ℤ, pos, negsuc, natAbs}
 use lib.Dec.{leb, eqb}
 use lib.ListN.{length, take, drop}
@@ -10,7 +10,6 @@ use Rattle.sheet.specs.Lattice.{multipleOf}
 use Rattle.sheet.specs.RecordA.{columnsOf, rowsOf}
 use Rattle.sheet.specs.declared.record_a.Header.{Header}
 use Rattle.load.specs.Posts.{void, voidPost, sameZ, blocksFor}
-use Rattle.load.specs.Deliver.{cellsOf}
 
 -- ---- cells and posts; z is the z spacing in hundredths
 

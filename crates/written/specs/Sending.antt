@@ -1,5 +1,5 @@
 -- Document 01, "Writing": what the writer refuses, in its order, and what it sends.
-use mathlib.Core.Bool.{Bool, true, false, cond, not}
+use mathlib.Core.Bool.{cond}
 use mathlib.Core.List.{List, map}
 use Prim.Native.Nat.{ℕ}
 use lib.IntN.{ℤ}

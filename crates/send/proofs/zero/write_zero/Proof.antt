@@ -1,5 +1,5 @@
 -- The loop keeps `Going`, whose laws are in ZeroWalk.
-use mathlib.Core.Path.{_≡_, refl, sym, _∙_, ap}
+use mathlib.Core.Path.{sym, _∙_, ap}
 use Prim.Native.Nat.{_-_}
 use native.Mathlib.Omega.{arith}
 use mir.Facts.{toZ-ofZ}
