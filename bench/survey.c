@@ -1,11 +1,11 @@
-/* A careful reader of elevation sheets in C, written to document 01's rules for the comparison of speed in bench/pace.sh. (Its author
-   had read crates/load/src, so it is no independent second reading.) It loads the sheet on standard input 400 times and prints the
-   counts of the last round. It trusts its own session: no test of soundness (kind 2).  `pace --sheet` writes a sheet instead. */
+/* A careful reader of elevation sheets in C, to document 01's rules, for the comparison of speed in bench/speed.sh: it lists the sheet on
+   standard input as the survey does. (Its author had read crates/load/src, so it is no independent second reading.) It trusts its own
+   session: no test of soundness (kind 2). */
 #include <stdint.h>
 #include <stdio.h>
 #include <string.h>
 
-enum { BLOCK = 1024, BLOCKS = 128, CELLS = 15000, ROUNDS = 400, SCRATCH = 170 };
+enum { BLOCK = 1024, CELLS = 1201 * 1201, SCRATCH = 170 };
 #define BILLION INT64_C(1000000000)
 #define CENT INT64_C(10000000) /* a hundredth, in billionths */
 
@@ -384,6 +384,8 @@ static answer begin(session *s, const unsigned char *b, int32_t *grid, size_t le
     return refuse(0, 0, 0);
 }
 
+static int is_complete(const session *s) { return s->closed == s->h.profiles && (!s->h.accuracy || s->finished); }
+
 static answer deliver(session *s, uint64_t number, const unsigned char *b, size_t bytes, int32_t *grid, size_t lent)
 {
     if (bytes != BLOCK)
@@ -394,7 +396,7 @@ static answer deliver(session *s, uint64_t number, const unsigned char *b, size_
         return refuse(3, number, 0);
     if (number == 0)
         return begin(s, b, grid, lent);
-    if (s->closed == s->h.profiles && (!s->h.accuracy || s->finished))
+    if (is_complete(s))
         return refuse(4, number, 0);
     if (lent < (size_t)(s->h.columns.count * s->h.rows.count))
         return refuse(12, number, 0);
@@ -408,117 +410,42 @@ static answer deliver(session *s, uint64_t number, const unsigned char *b, size_
     return refuse(0, 0, 0);
 }
 
-/* ---- a sheet to load: 20 profiles of 740 posts, some void, metres, z spacing 0.1 */
+/* ---- the listing */
 
-static void put_integer(unsigned char *at, int64_t v)
+static void print_hundredths(const char *before, int64_t v)
 {
-    char t[16];
-    snprintf(t, sizeof t, "%6d", (int)v);
-    memcpy(at, t, 6);
+    printf("%s%s%lld.%02lld", before, v < 0 ? "-" : "", (long long)(v < 0 ? -v : v) / 100, (long long)(v < 0 ? -v : v) % 100);
 }
 
-/* Billionths as 0.dddD+ee with `digits` digits, right-justified. */
-static void put_real(unsigned char *at, int width, int digits, char mark, int64_t v)
+static void print_sheet(const session *s)
 {
-    char t[40];
-    int64_t m = v < 0 ? -v : v;
-    int e = digits - 9;
-    if (!m)
-        e = 0;
-    while (m && m < power_of_ten(digits - 1))
-        m *= 10, e--;
-    while (m >= power_of_ten(digits))
-        m /= 10, e++;
-    int n = snprintf(t, sizeof t, "%s0.%0*lld%c%c%02d", v < 0 ? "-" : "", digits, (long long)m, mark, e < 0 ? '-' : '+', e < 0 ? -e : e);
-    memcpy(at + width - n, t, (size_t)n);
+    const header *h = &s->h;
+    const extremes *e = &s->seen;
+    printf("sheet %lld %lld %lld %lld", (long long)h->rows.count, (long long)h->columns.count, (long long)(h->xstep / BILLION),
+           (long long)(h->ystep / BILLION));
+    print_hundredths(" ", h->zstep / CENT);
+    printf("\nposts %llu void %llu\n", (unsigned long long)s->posts, (unsigned long long)(s->posts - e->filled));
+    print_hundredths("range ", e->filled ? e->low : 0);
+    print_hundredths(" ", e->filled ? e->high : 0);
+    printf("\nend %llu\n", (unsigned long long)s->taken);
 }
 
-enum { WIDE = 20, TALL = 740 };
-
-static int64_t next_post(uint32_t *seed)
+int main(void)
 {
-    *seed = *seed * UINT32_C(1664525) + UINT32_C(1013904223);
-    uint32_t r = *seed >> 8;
-    if (r % 41 == 0)
-        return -32767;
-    return r % 5 == 0 ? (int64_t)(r / 7 % 64000) - 32000 : (int64_t)(r / 7 % 12000) - 900;
-}
-
-static void write_sheet(void)
-{
-    static unsigned char sheet[BLOCKS * BLOCK];
-    static const int64_t corner[8] = { 600000, 3999990, 600000, 3999990 + 30 * (TALL - 1), 600000 + 30 * (WIDE - 1),
-                                       3999990 + 30 * (TALL - 1), 600000 + 30 * (WIDE - 1), 3999990 };
-    extremes all = { 0, 0, 0 };
-    uint32_t seed = 1;
-    int block = 1;
-    memset(sheet, ' ', sizeof sheet);
-    memcpy(sheet, "PACE", 4);
-    memcpy(sheet + 140, "GPM2", 4);
-    static const int16_t numbers[][2] = { { 145, 1 }, { 151, 1 }, { 157, 1 }, { 163, 17 }, { 529, 2 }, { 535, 2 }, { 541, 4 }, { 811, 0 }, { 853, 1 }, { 859, WIDE } };
-    for (size_t i = 0; i < sizeof numbers / sizeof *numbers; i++)
-        put_integer(sheet + numbers[i][0] - 1, numbers[i][1]);
-    for (int i = 0; i < 15; i++)
-        put_real(sheet + 168 + 24 * i, 24, 15, 'D', 0);
-    for (int i = 0; i < 8; i++)
-        put_real(sheet + 546 + 24 * i, 24, 15, 'D', corner[i] * BILLION);
-    put_real(sheet + 786, 24, 15, 'D', 0);
-    put_real(sheet + 816, 12, 6, 'E', 30 * BILLION);
-    put_real(sheet + 828, 12, 6, 'E', 30 * BILLION);
-    put_real(sheet + 840, 12, 6, 'E', 10 * CENT);
-    for (int c = 0; c < WIDE; c++) {
-        unsigned char *b = sheet + block * BLOCK;
-        int64_t datum = 250 * (c % 5);
-        extremes e = { 0, 0, 0 };
-        put_integer(b, 1);
-        put_integer(b + 6, c + 1);
-        put_integer(b + 12, TALL);
-        put_integer(b + 18, 1);
-        put_real(b + 24, 24, 15, 'D', (corner[0] + 30 * c) * BILLION);
-        put_real(b + 48, 24, 15, 'D', corner[1] * BILLION);
-        put_real(b + 72, 24, 15, 'D', datum * CENT);
-        for (int i = 0, at = 144; i < TALL; i++, at += 6) {
-            if (at + 6 > BLOCK)
-                block++, at = 0;
-            int64_t v = next_post(&seed), cell = v * 10 + datum;
-            put_integer(sheet + block * BLOCK + at, v);
-            extremes one = { v != -32767, cell, cell };
-            join(&e, &one);
-        }
-        block++;
-        put_real(b + 96, 24, 15, 'D', e.low * CENT);
-        put_real(b + 120, 24, 15, 'D', e.high * CENT);
-        join(&all, &e);
-    }
-    put_real(sheet + 738, 24, 15, 'D', all.low * CENT);
-    put_real(sheet + 762, 24, 15, 'D', all.high * CENT);
-    fwrite(sheet, BLOCK, (size_t)block, stdout);
-}
-
-int main(int argc, char **argv)
-{
-    static unsigned char sheet[BLOCKS * BLOCK];
+    static unsigned char block[BLOCK];
     static int32_t grid[CELLS];
     static session s;
-    if (argc > 1 && !strcmp(argv[1], "--sheet")) {
-        write_sheet();
-        return 0;
-    }
-    size_t blocks = fread(sheet, 1, sizeof sheet, stdin) / BLOCK;
-    for (int r = 0; r < ROUNDS; r++) {
-        memset(&s, 0, sizeof s);
-        for (size_t i = 0; i < blocks; i++) {
-            answer a = deliver(&s, i, sheet + i * BLOCK, BLOCK, grid, CELLS);
-            if (a.kind && argc > 1)
-                fprintf(stderr, "refused %d %llu %d\n", a.kind, (unsigned long long)a.block, a.byte);
+    size_t got;
+    for (uint64_t number = 0; (got = fread(block, 1, BLOCK, stdin)) > 0; number++) {
+        answer a = deliver(&s, number, block, got, grid, CELLS);
+        if (a.kind > 0) {
+            printf("refused %d %llu %d\n", a.kind, (unsigned long long)a.block, a.byte);
+            return 0;
         }
     }
-    uint64_t plain = 0, placed = 0;
-    for (int i = 0; i < CELLS; i++) {
-        plain += (uint64_t)(int64_t)grid[i];
-        placed += plain;
-    }
-    printf("taken %llu posts %llu filled %llu sum %llu\n", (unsigned long long)s.taken, (unsigned long long)s.posts,
-           (unsigned long long)s.seen.filled, (unsigned long long)placed);
+    if (s.taken && is_complete(&s))
+        print_sheet(&s);
+    else
+        printf("unfinished %llu\n", (unsigned long long)s.taken);
     return 0;
 }

@@ -1,0 +1,101 @@
+#!/usr/bin/env bash
+# The survey beside a careful C reader, GDAL and plain reading, as ratios in one run: bench/speed.sh (docs/SPEED.md tells what it showed).
+# It asserts that all say the same of the sheet, and no time. Needs gcc and valgrind; with GDAL (libgdal-dev) it is measured too.
+set -euo pipefail
+cd "$(dirname "$0")/.."
+. .ci/setup
+need gcc gcc
+need valgrind valgrind
+home=${RATTLE_HOME:-$(dirname "$(dirname "$(readlink -f "$(command -v rt)")")")}
+tools=$home/on/$(uname -m)/toolchain
+room=$(mktemp -d)
+chmod 755 "$room" # rt runs a program as nobody
+trap 'rm -rf "$room"' EXIT
+
+# rt builds for x86-64. On another processor the survey is built again in a copy by a clang that keeps the module which rattle hands it,
+# and that module is compiled for this processor: the same code below the proof, another back end of the same clang.
+ours_elsewhere() {
+    local copy=$room/copy kit=$room/kit own=on/$(uname -m)
+    mkdir -p "$copy/target" "$kit/$own/toolchain/bin"
+    ln -s "$home"/[!o]* "$kit/"
+    ln -s "$home/$own"/[!t]* "$kit/$own/"
+    ln -s "$tools/lib" "$kit/$own/toolchain/lib"
+    ln -s "$tools/bin"/[!c]* "$kit/$own/toolchain/bin/"
+    { echo '#!/bin/sh'; echo "cp module.bc '$room/module.bc'"; echo "exec '$tools/bin/clang' \"\$@\""; } >"$kit/$own/toolchain/bin/clang"
+    chmod +x "$kit/$own/toolchain/bin/clang"
+    cp -r crates crates.txt "$copy/" && cp -r target/rlib target/stamp "$copy/target/" && rm -r "$copy/target/stamp/survey"
+    (cd "$copy" && RATTLE_HOME=$kit rt check survey >"$room/log" 2>&1) || { cat "$room/log"; exit 1; }
+    "$tools/bin/clang" -O3 -fPIE -Wno-override-module -c -x ir "$room/module.bc" -o "$room/ours.o" 2>/dev/null
+    gcc "$room/ours.o" -o "$room/ours"
+}
+
+rt check survey >/dev/null
+if [ "$(uname -m)" = x86_64 ]; then cp target/bin/survey "$room/ours"; else ours_elsewhere; fi
+for name in sheet plain; do gcc -O2 -Wall -Wextra -Werror "bench/$name.c" -o "$room/$name"; done
+gcc -O2 -Wall -Wextra -Werror bench/survey.c -o "$room/gcc-O2"
+gcc -O3 bench/survey.c -o "$room/gcc-O3"
+"$tools/bin/clang" -O3 -isystem "$(gcc -print-file-name=include)" -isystem /usr/include -isystem "/usr/include/$(gcc -dumpmachine)" \
+    -c bench/survey.c -o "$room/clang.o"
+gcc "$room/clang.o" -o "$room/clang-O3"
+readers=(ours gcc-O2 gcc-O3 clang-O3)
+gdal=
+if command -v gdal-config >/dev/null; then
+    # shellcheck disable=SC2046 # words of a command
+    gcc -O2 $(gdal-config --cflags) bench/gdal.c $(gdal-config --libs) -o "$room/gdal"
+    gdal=yes
+fi
+
+ratio() { awk -v a="$1" -v b="$2" 'BEGIN { printf "%.2f", a / b }'; }
+
+# The best of 21 turns for each program in microseconds from start to end, the programs by turns.
+declare -A best
+timed() { # SHEET PROGRAM..
+    local sheet=$1 name from took turn
+    shift
+    best=()
+    for turn in {1..21}; do
+        for name in "$@"; do
+            from=${EPOCHREALTIME/./}
+            if [ "$name" = gdal ]; then
+                took=$("$room/gdal" "$sheet" | cut -d' ' -f4)
+            else
+                "$room/$name" <"$sheet" >/dev/null
+                took=$((${EPOCHREALTIME/./} - from))
+            fi
+            [ "${best[$name]:-$took}" -lt "$took" ] || best[$name]=$took
+        done
+    done
+}
+
+instructions() { # PROGRAM SHEET
+    valgrind --tool=callgrind --callgrind-out-file=/dev/null "$room/$1" <"$2" 2>&1 >/dev/null | awk '/Collected/ { print $4 }'
+}
+
+agree() { # SHEET
+    local name rows columns filled
+    "$room/ours" <"$1" >"$room/said"
+    for name in "${readers[@]}"; do "$room/$name" <"$1" | cmp - "$room/said" || { echo "$name says something else"; exit 1; }; done
+    [ -z "$gdal" ] || {
+        read -r rows columns filled _ < <("$room/gdal" "$1")
+        awk -v r="$rows" -v c="$columns" -v f="$filled" '$1 == "sheet" { ok = $2 == r && $3 == c } $1 == "posts" { ok = ok && $2 - $4 == f } END { exit !ok }' "$room/said" ||
+            { echo "GDAL says something else"; exit 1; }
+    }
+}
+
+for kind in smooth rough; do
+    "$room/sheet" 1201 1201 "$kind" >"$room/$kind.dem"
+    agree "$room/$kind.dem"
+    timed "$room/$kind.dem" "${readers[@]}" plain ${gdal:+gdal}
+    echo "1201 x 1201, $kind: ours ${best[ours]} us"
+    for name in "${readers[@]:1}" plain ${gdal:+gdal}; do echo "    ours/$name $(ratio "${best[ours]}" "${best[$name]}")"; done
+    for name in "${readers[@]}"; do echo "    instructions a post, $name: $(ratio "$(instructions "$name" "$room/$kind.dem")" 1442401)"; done
+done
+declare -A first
+for side in 300 600 1200; do
+    "$room/sheet" $side $side smooth >"$room/growth.dem"
+    timed "$room/growth.dem" ours
+    count=$(instructions ours "$room/growth.dem")
+    [ -n "${first[us]:-}" ] || first=([us]=${best[ours]} [count]=$count)
+    echo "posts x $((side * side / 90000)): time x $(ratio "${best[ours]}" "${first[us]}"), instructions x $(ratio "$count" "${first[count]}")"
+done
+echo "on $(uname -m); $(gcc --version | head -1); $("$tools/bin/clang" --version | head -1)${gdal:+; GDAL $(gdal-config --version)}"
