@@ -1,35 +1,70 @@
-//! Asks a program for answers over a pipe, many at a time: `examples/answers.c` says the format. How a comparison by such
-//! answers begins and ends stands here too.
+//! Asks a program for answers over a pipe, many at a time: `examples/answers.c` says the
+//! format. How a comparison by such answers begins and ends stands here too.
 
+use crate::comparing::{arguments, finish, number};
 use crate::dice::Dice;
+use crate::texts::Family;
 use std::io::{BufWriter, Read, Write};
-use std::process::{exit, Child, ChildStdin, ChildStdout, Command, Stdio};
+use std::process::{Child, ChildStdin, ChildStdout, Command, Stdio};
 
-/// Neither pipe may be full with both sides writing: so many bytes of questions, and far fewer of answers, fit.
+/// Neither pipe may be full with both sides writing: so many bytes of questions, and far
+/// fewer of answers, fit.
 const MOST_WAITING: usize = 30_000;
+/// The C side lends the bytes of a question in two surroundings, and answers for both.
+const SURROUNDINGS: usize = 2;
 
-pub struct Asking {
+/// What a program is asked, with what this one says of it.
+pub trait Question {
+    /// The byte before a question of this sort.
+    const SORT: u8;
+    /// Bytes of an answer to it.
+    const ANSWER: usize;
+
+    fn bytes(&self) -> &[u8];
+
+    /// A difference ends the run.
+    fn demand_same(&self, answer: &[u8]);
+}
+
+pub struct Asking<Asked> {
     child: Child,
     questions: BufWriter<ChildStdin>,
     answers: ChildStdout,
+    /// Questions whose answers have not been taken, and the most bytes that these can have
+    /// brought into either pipe.
+    open: Vec<Asked>,
     waiting: usize,
 }
 
-impl Asking {
-    /// PROGRAM [SEED]: the program asked, and dice of the seed. Other arguments end the run with status 2.
-    pub fn begin(usage: &str, usual_seed: u64) -> (Asking, Dice) {
-        let given: Vec<String> = std::env::args().skip(1).collect();
-        let seed = given.get(1).map_or(Ok(usual_seed), |text| text.parse());
-        let (Some(program), Ok(seed), true) = (given.first(), seed, given.len() <= 2) else {
-            println!("usage: {usage}");
-            exit(2);
-        };
-        println!("seed {seed}");
-        let asking = Asking::of(program).unwrap_or_else(|fault| end_badly(&[fault]));
-        (asking, Dice::new(seed))
+/// PROGRAM [SEED]: asks the program about every input of every family, and says how many
+/// each family has. Other arguments end the run with status 2.
+pub fn ask_all<Asked: Question>(
+    usage: &str,
+    usual_seed: u64,
+    families: &[Family],
+    mut question: impl FnMut(&[u8]) -> Asked,
+) -> Asking<Asked> {
+    let given = arguments(usage);
+    let seed = number(&given, 1, usage).unwrap_or(usual_seed);
+    println!("seed {seed}");
+    let mut asking = Asking::of(&given[0]).unwrap_or_else(|fault| finish(&[fault]));
+    let mut dice = Dice::new(seed);
+    let longest = families.iter().map(|family| family.name.len()).max();
+    let width = longest.unwrap_or(0) + 2;
+    for family in families {
+        let mut count = 0;
+        (family.make)(&mut dice, &mut |input| {
+            asking.ask(question(input));
+            count += 1;
+        });
+        println!("{:<width$} {count:>8}", family.name);
     }
+    asking.hold_against_answers();
+    asking
+}
 
-    fn of(program: &str) -> Result<Asking, String> {
+impl<Asked: Question> Asking<Asked> {
+    fn of(program: &str) -> Result<Asking<Asked>, String> {
         let started = Command::new(program)
             .stdin(Stdio::piped())
             .stdout(Stdio::piped())
@@ -41,25 +76,42 @@ impl Asking {
             child,
             questions,
             answers,
+            open: Vec::new(),
             waiting: 0,
         })
     }
 
-    /// Sends a question. True: it is time to take the answers to all questions since the last time.
-    pub fn ask(&mut self, what: u8, bytes: &[u8], answer: usize) -> bool {
+    fn ask(&mut self, question: Asked) {
+        let bytes = question.bytes();
         let length = u32::try_from(bytes.len()).expect("no text is that long");
         let sent = self
             .questions
-            .write_all(&[what])
+            .write_all(&[Asked::SORT])
             .and_then(|()| self.questions.write_all(&length.to_le_bytes()))
             .and_then(|()| self.questions.write_all(bytes));
         sent.expect("the program asked takes every question");
-        self.waiting += (5 + bytes.len()).max(answer);
-        self.waiting > MOST_WAITING
+        self.waiting += (5 + bytes.len()).max(SURROUNDINGS * Asked::ANSWER);
+        self.open.push(question);
+        if self.waiting > MOST_WAITING {
+            self.hold_against_answers();
+        }
     }
 
-    /// The answers to so many bytes.
-    pub fn take(&mut self, bytes: usize) -> Vec<u8> {
+    /// Holds every open question against both its answers.
+    fn hold_against_answers(&mut self) {
+        let of_one = SURROUNDINGS * Asked::ANSWER;
+        let answers = self.take(self.open.len() * of_one);
+        for (question, both) in self.open.iter().zip(answers.chunks(of_one)) {
+            for answer in both.chunks(Asked::ANSWER) {
+                question.demand_same(answer);
+            }
+        }
+        self.open.clear();
+        self.waiting = 0;
+    }
+
+    /// The answers to the open questions, which are so many bytes.
+    fn take(&mut self, bytes: usize) -> Vec<u8> {
         self.questions
             .write_all(b"n")
             .and_then(|()| self.questions.flush())
@@ -68,19 +120,16 @@ impl Asking {
         self.answers
             .read_exact(&mut taken)
             .expect("the program asked answers every question");
-        self.waiting = 0;
         taken
     }
 
-    /// Ends a run in which nothing differed: with status 1 where it left something out, or the program ends badly.
-    pub fn end(self, shortcomings: &[String]) {
-        if !shortcomings.is_empty() {
-            end_badly(shortcomings);
+    /// Ends a run in which nothing differed: with status 1 where it left something out, or
+    /// the program ends badly.
+    pub fn end(self, mut shortcomings: Vec<String>) -> ! {
+        if shortcomings.is_empty() {
+            shortcomings.extend(self.done().err());
         }
-        if let Err(fault) = self.done() {
-            end_badly(&[fault]);
-        }
-        println!("no difference");
+        finish(&shortcomings)
     }
 
     /// The program must end well once it is asked nothing more.
@@ -99,13 +148,6 @@ impl Asking {
             Err(fault) => Err(format!("the program asked was lost: {fault}")),
         }
     }
-}
-
-fn end_badly(faults: &[String]) -> ! {
-    for fault in faults {
-        println!("this run does not count: {fault}");
-    }
-    exit(1);
 }
 
 /// A number of four bytes, the least first, from a place.

@@ -3,6 +3,7 @@
 
 use crate::dice::Dice;
 use crate::runner;
+use crate::turns::Made;
 use std::collections::BTreeMap;
 use std::process::exit;
 use std::str::FromStr;
@@ -22,13 +23,21 @@ pub struct Asked {
     pub fourth: Option<usize>,
 }
 
-/// The arguments given; any that cannot be one of them ends the program with status 2.
-pub fn asked(usage: &str, usual_inputs: usize) -> Asked {
-    let given: Vec<String> = std::env::args().skip(1).collect();
-    let permitted = 1..=usage.split_whitespace().count() - 1;
-    if !permitted.contains(&given.len()) {
-        explain(usage);
-    }
+/// Compares as many inputs as the arguments ask for; the notes of all, in no order. The
+/// first difference ends the run.
+pub fn notes_of<Note: Send>(
+    usage: &str,
+    usual_inputs: usize,
+    compare: impl Fn(&Asked, usize) -> Result<Note, Mismatch> + Sync,
+) -> Vec<Note> {
+    let asked = asked(usage, usual_inputs);
+    println!("seed {}", asked.seed);
+    let compared = on_all_processors(asked.inputs, |number| compare(&asked, number));
+    compared.unwrap_or_else(|mismatch| fail(usage, &mismatch))
+}
+
+fn asked(usage: &str, usual_inputs: usize) -> Asked {
+    let given = arguments(usage);
     Asked {
         program: given[0].clone(),
         seed: number(&given, 1, usage).unwrap_or(USUAL_SEED),
@@ -37,7 +46,18 @@ pub fn asked(usage: &str, usual_inputs: usize) -> Asked {
     }
 }
 
-fn number<T: FromStr>(given: &[String], place: usize, usage: &str) -> Option<T> {
+/// The arguments given; none, or more than the usage names, end the program with status 2.
+pub fn arguments(usage: &str) -> Vec<String> {
+    let given: Vec<String> = std::env::args().skip(1).collect();
+    let permitted = 1..=usage.split_whitespace().count() - 1;
+    if !permitted.contains(&given.len()) {
+        explain(usage);
+    }
+    given
+}
+
+/// The argument at this place, if it is given; one that is no number is status 2 too.
+pub fn number<T: FromStr>(given: &[String], place: usize, usage: &str) -> Option<T> {
     let text = given.get(place)?;
     Some(text.parse().unwrap_or_else(|_| explain(usage)))
 }
@@ -49,7 +69,7 @@ fn explain(usage: &str) -> ! {
 
 /// What the program writes for this input. Every 21st input comes in pieces, cut at any
 /// byte; 21 has no divisor in common with the 100 shares, so all families get their turn.
-pub fn output_of(asked: &Asked, number: usize, input: &[u8]) -> Result<Vec<u8>, String> {
+fn output_of(asked: &Asked, number: usize, input: &[u8]) -> Result<Vec<u8>, String> {
     if number % 21 != 5 {
         return runner::run(&asked.program, input);
     }
@@ -68,13 +88,34 @@ pub fn output_of(asked: &Asked, number: usize, input: &[u8]) -> Result<Vec<u8>, 
 
 /// What differed, in words, and the input that showed it.
 pub struct Mismatch {
-    pub words: String,
-    pub input: Vec<u8>,
+    words: String,
+    input: Vec<u8>,
 }
 
-/// Compares input after input on all processors; the notes of all, in no order, or the
-/// first difference found.
-pub fn on_all_processors<Note: Send>(
+/// Runs the program on input `number`; `what` is such an input in a word. `difference` says
+/// what is wrong with an output; None if nothing is.
+pub fn demand_same(
+    asked: &Asked,
+    what: &str,
+    number: usize,
+    made: &Made,
+    difference: impl Fn(&[u8]) -> Option<String>,
+) -> Result<(), Mismatch> {
+    let fault = match output_of(asked, number, &made.bytes) {
+        Err(reason) => Some(format!("the program {reason}")),
+        Ok(found) => difference(&found),
+    };
+    match fault {
+        None => Ok(()),
+        Some(fault) => Err(Mismatch {
+            words: format!("mismatch in {what} {number}, {}\n{fault}", made.family),
+            input: made.bytes.clone(),
+        }),
+    }
+}
+
+/// Input after input on all processors, up to the first difference found.
+fn on_all_processors<Note: Send>(
     inputs: usize,
     compare: impl Fn(usize) -> Result<Note, Mismatch> + Sync,
 ) -> Result<Vec<Note>, Mismatch> {
@@ -109,8 +150,9 @@ fn lock<T>(shared: &Mutex<T>) -> std::sync::MutexGuard<'_, T> {
 }
 
 /// Tells of a difference, keeps its input for another look, and ends with status 1.
-pub fn fail(comparison: &str, mismatch: &Mismatch) -> ! {
+fn fail(usage: &str, mismatch: &Mismatch) -> ! {
     println!("{}", mismatch.words);
+    let comparison = usage.split(' ').next().unwrap_or(usage);
     let kept = std::env::temp_dir().join(format!("{comparison}.input"));
     match std::fs::write(&kept, &mismatch.input) {
         Ok(()) => println!("the input is kept in {}", kept.display()),

@@ -1,9 +1,9 @@
 //! Field texts on the edge with the answers the papers give them or that follow from
 //! their rules. Each row: text, kind, value (reals in billionths).
 
-pub type Example = (&'static [u8], u32, i64);
+use crate::block::UNIT;
 
-const UNIT: i64 = 1_000_000_000;
+pub type Example = (&'static [u8], u32, i64);
 
 pub const INTEGERS: &[Example] = &[
     // 01, "Examples on the edge". That -32768 is no post is a rule on posts, not on fields.

@@ -2,7 +2,7 @@
 //! out. The whole input is read once as one text. That says the same as delivering block
 //! after block, since a block's fault depends on the blocks before it and on no later one.
 
-use crate::block::{BLOCK_LENGTH, HUNDREDTH, UNIT};
+use crate::block::{BLOCK_LENGTH, UNIT};
 use crate::kind::{GRID_TOO_SHORT, SHEET_COMPLETE, WRONG_LENGTH};
 use crate::meaning::{in_block, read, Block, Refusal, Sheet};
 use crate::record_a;
@@ -50,9 +50,7 @@ impl Outcome {
         match self {
             Outcome::Listed(sheet) => listing(sheet),
             Outcome::Unfinished(taken) => format!("unfinished {taken}\n"),
-            Outcome::Refused(Refusal { kind, block, byte }) => {
-                format!("refused {kind} {block} {byte}\n")
-            }
+            Outcome::Refused(refusal) => refusal.line(),
         }
     }
 }
@@ -65,7 +63,7 @@ fn listing(sheet: &Sheet) -> String {
         header.columns().count(),
         header.x_spacing / UNIT,
         header.y_spacing / UNIT,
-        two_decimals(header.z_spacing / HUNDREDTH),
+        two_decimals(header.step()),
         figures.posts,
         figures.posts - figures.filled,
         two_decimals(figures.least),

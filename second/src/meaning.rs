@@ -20,6 +20,13 @@ pub struct Refusal {
     pub byte: u32,
 }
 
+impl Refusal {
+    /// As `replay` and the lister write it.
+    pub fn line(&self) -> String {
+        format!("refused {} {} {}\n", self.kind, self.block, self.byte)
+    }
+}
+
 #[derive(Clone, Debug)]
 pub struct Sheet {
     pub header: Header,

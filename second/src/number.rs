@@ -2,13 +2,11 @@
 //! paper: a real is two rows of digits, left and right of the point, and an exponent
 //! moves the point one place at a time. No value is ever rounded or estimated.
 
+use crate::kind::{OUT_OF_RANGE, TOO_FINE, WRONG_FORM, WRONG_LENGTH};
 use std::collections::VecDeque;
 
+/// The kind of a field that reads well.
 pub const FINE: u32 = 0;
-pub const WRONG_LENGTH: u32 = 1;
-pub const WRONG_FORM: u32 = 6;
-pub const TOO_LARGE: u32 = 7;
-pub const TOO_FINE: u32 = 8;
 
 const LONGEST_INTEGER: usize = 6;
 const LONGEST_REAL: usize = 24;
@@ -61,7 +59,7 @@ fn read_real(field: &[u8]) -> Result<i64, u32> {
     // Order of 01 and READINGS 6: 7 on the exact value, then 8. Zero has no digits
     // left here and so passes both (READINGS 7).
     if decimal.whole.len() > DIGITS_BEFORE_POINT {
-        return Err(TOO_LARGE);
+        return Err(OUT_OF_RANGE);
     }
     if decimal.fraction.len() > DIGITS_AFTER_POINT {
         return Err(TOO_FINE);

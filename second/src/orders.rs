@@ -9,7 +9,7 @@ mod templates;
 pub mod whole;
 
 use crate::dice::Dice;
-use crate::turns::turn_of;
+use crate::turns::{self, Made};
 
 /// A template and cells; `more` are bytes after the last whole cell.
 #[derive(Clone, Debug, Default)]
@@ -29,82 +29,24 @@ impl Order {
     }
 }
 
-pub struct Family {
-    pub name: &'static str,
-    /// How many of every hundred orders are of this family.
-    pub share: usize,
-    pub make: fn(&mut Dice) -> Order,
-}
+type Family = turns::Family<fn(&mut Dice) -> Order>;
 
+/// Each with how many of every hundred orders are of it.
 pub const FAMILIES: &[Family] = &[
-    Family {
-        name: "small sheets",
-        share: 20,
-        make: whole::small,
-    },
-    Family {
-        name: "sheets of voids",
-        share: 8,
-        make: whole::of_voids,
-    },
-    Family {
-        name: "long profiles",
-        share: 12,
-        make: whole::long,
-    },
-    Family {
-        name: "wide sheets",
-        share: 2,
-        make: whole::wide,
-    },
-    Family {
-        name: "as many cells as may be",
-        share: 3,
-        make: whole::full,
-    },
-    Family {
-        name: "heights at the limits",
-        share: 12,
-        make: heights::at_the_limits,
-    },
-    Family {
-        name: "unfit cells",
-        share: 12,
-        make: heights::unfit,
-    },
-    Family {
-        name: "grids short and long",
-        share: 9,
-        make: bad::grid_of_another_length,
-    },
-    Family {
-        name: "templates damaged",
-        share: 14,
-        make: bad::damaged_template,
-    },
-    Family {
-        name: "templates cut short",
-        share: 3,
-        make: bad::short_template,
-    },
-    Family {
-        name: "bad input",
-        share: 5,
-        make: bad::input,
-    },
+    Family::of("small sheets", 20, whole::small),
+    Family::of("sheets of voids", 8, whole::of_voids),
+    Family::of("long profiles", 12, whole::long),
+    Family::of("wide sheets", 2, whole::wide),
+    Family::of("as many cells as may be", 3, whole::full),
+    Family::of("heights at the limits", 12, heights::at_the_limits),
+    Family::of("unfit cells", 12, heights::unfit),
+    Family::of("grids short and long", 9, bad::grid_of_another_length),
+    Family::of("templates damaged", 14, bad::damaged_template),
+    Family::of("templates cut short", 3, bad::short_template),
+    Family::of("bad input", 5, bad::input),
 ];
-
-pub struct Made {
-    pub family: &'static str,
-    pub bytes: Vec<u8>,
-}
 
 /// Order `number` of the run with this seed.
 pub fn make(seed: u64, number: usize) -> Made {
-    let family = &FAMILIES[turn_of(number, FAMILIES.iter().map(|family| family.share))];
-    let order = (family.make)(&mut Dice::numbered(seed, number));
-    Made {
-        family: family.name,
-        bytes: order.bytes(),
-    }
+    turns::made(FAMILIES, seed, number, |make, dice| make(dice).bytes())
 }

@@ -4,6 +4,7 @@
 
 use crate::block::{put, BLOCK_LENGTH, UNIT};
 use crate::meaning::Block;
+use crate::profile::VOID_POST;
 use crate::written::{put_integers, put_reals, put_spacings};
 
 const NAME: &[u8] = b"PAPER SHEET";
@@ -11,7 +12,6 @@ const NAME: &[u8] = b"PAPER SHEET";
 const CORNERS: [i64; 8] = [600, 900, 600, 960, 630, 960, 630, 900];
 const SPACINGS: [i64; 3] = [30, 30, 1];
 const EXTREMES: [i64; 2] = [9, 12];
-const VOID_POST: i64 = -32767;
 
 /// Block 0 and the two profiles, joined.
 pub fn sheet() -> Vec<u8> {

@@ -165,6 +165,11 @@ impl Header {
     pub fn cells(&self) -> usize {
         (self.columns().count() * self.rows().count()) as usize
     }
+
+    /// Hundredths of a unit in one step of a post; a z spacing is a whole number of them.
+    pub fn step(&self) -> i64 {
+        self.z_spacing / HUNDREDTH
+    }
 }
 
 /// Least and greatest are over all four corners (READINGS 13).

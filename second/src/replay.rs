@@ -3,7 +3,6 @@
 
 use crate::block::{Record, USUAL_CELLS};
 use crate::load::{deliver, Answer, Session};
-use crate::meaning::Refusal;
 use std::fmt::Write;
 
 pub const MOST_CELLS: u32 = USUAL_CELLS as u32;
@@ -109,9 +108,7 @@ fn line_of(answer: Answer) -> String {
     match answer {
         Answer::Taken => "taken\n".to_string(),
         Answer::Held => "held\n".to_string(),
-        Answer::Refused(Refusal { kind, block, byte }) => {
-            format!("refused {kind} {block} {byte}\n")
-        }
+        Answer::Refused(refusal) => refusal.line(),
     }
 }
 

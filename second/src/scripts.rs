@@ -11,121 +11,79 @@ mod poor_line;
 
 use crate::dice::Dice;
 use crate::replay::Script;
-use crate::turns::turn_of;
+use crate::turns::{self, Made};
+use Maker::{BreaksOff, Whole};
 
-pub struct Family {
-    pub name: &'static str,
-    /// How many of every hundred scripts are of this family.
-    pub share: usize,
-    /// Whether some of its scripts break off after any delivery. A grid is shown only at
-    /// a script's end, so this is how a refusal that changed something is found out.
-    pub breaks_off: bool,
-    pub make: fn(&mut Dice) -> Script,
+/// How a family's scripts are made.
+pub enum Maker {
+    Whole(fn(&mut Dice) -> Script),
+    /// Half of them break off after any delivery. A grid is shown only at a script's end,
+    /// so this is how a refusal that changed something is found out.
+    BreaksOff(fn(&mut Dice) -> Script),
 }
 
-pub const FAMILIES: &[Family] = &[
-    Family {
-        name: "whole sheets",
-        share: 9,
-        breaks_off: false,
-        make: line::whole_sheet,
-    },
-    Family {
-        name: "whole sheets, long profiles",
-        share: 5,
-        breaks_off: false,
-        make: line::whole_sheet_of_long_profiles,
-    },
-    Family {
-        name: "poor line",
-        share: 17,
-        breaks_off: true,
-        make: poor_line::small_sheet,
-    },
-    Family {
-        name: "poor line, long profiles",
-        share: 8,
-        breaks_off: true,
-        make: poor_line::long_profiles,
-    },
-    Family {
-        name: "two sheets mixed up",
-        share: 3,
-        breaks_off: true,
-        make: poor_line::two_sheets,
-    },
-    Family {
-        name: accident::THE_CUSTOMERS_ACCIDENT,
-        share: 4,
-        breaks_off: false,
-        make: accident::the_customers_accident,
-    },
-    Family {
-        name: "record A damaged, corrected",
-        share: 8,
-        breaks_off: true,
-        make: damaged::header,
-    },
-    Family {
-        name: "profiles damaged, corrected",
-        share: 16,
-        breaks_off: true,
-        make: damaged::profiles,
-    },
-    Family {
-        name: "record C damaged, corrected",
-        share: 6,
-        breaks_off: true,
-        make: damaged::statistics,
-    },
-    Family {
-        name: "closing rules",
-        share: 8,
-        breaks_off: true,
-        make: closing::wrong_extremes,
-    },
-    Family {
-        name: "grids lent short",
-        share: 5,
-        breaks_off: true,
-        make: grids::lent_short,
-    },
-    Family {
-        name: "numbers and lengths",
-        share: 4,
-        breaks_off: true,
-        make: grids::numbers_and_lengths,
-    },
-    Family {
-        name: "no deliveries",
-        share: 1,
-        breaks_off: false,
-        make: grids::no_deliveries,
-    },
-    Family {
-        name: "bad scripts",
-        share: 6,
-        breaks_off: false,
-        make: malformed::bad_script,
-    },
-];
-
-pub struct Made {
-    pub family: &'static str,
-    pub bytes: Vec<u8>,
+impl Maker {
+    pub fn script(&self, dice: &mut Dice) -> Script {
+        match self {
+            Whole(make) => make(dice),
+            BreaksOff(make) => at_times_broken_off(make(dice), dice),
+        }
+    }
 }
 
-/// Script `number` of the run with this seed.
-pub fn make(seed: u64, number: usize) -> Made {
-    let family = &FAMILIES[turn_of(number, FAMILIES.iter().map(|family| family.share))];
-    let mut dice = Dice::numbered(seed, number);
-    let mut script = (family.make)(&mut dice);
-    if family.breaks_off && dice.one_in(2) {
+fn at_times_broken_off(mut script: Script, dice: &mut Dice) -> Script {
+    if dice.one_in(2) {
         let deliveries = dice.size(1, script.deliveries());
         script.break_off_after(deliveries);
     }
-    Made {
-        family: family.name,
-        bytes: script.bytes,
-    }
+    script
+}
+
+type Family = turns::Family<Maker>;
+
+/// Each with how many of every hundred scripts are of it.
+pub const FAMILIES: &[Family] = &[
+    Family::of("whole sheets", 9, Whole(line::whole_sheet)),
+    Family::of(
+        "whole sheets, long profiles",
+        5,
+        Whole(line::whole_sheet_of_long_profiles),
+    ),
+    Family::of("poor line", 17, BreaksOff(poor_line::small_sheet)),
+    Family::of(
+        "poor line, long profiles",
+        8,
+        BreaksOff(poor_line::long_profiles),
+    ),
+    Family::of("two sheets mixed up", 3, BreaksOff(poor_line::two_sheets)),
+    Family::of(
+        accident::THE_CUSTOMERS_ACCIDENT,
+        4,
+        Whole(accident::the_customers_accident),
+    ),
+    Family::of("record A damaged, corrected", 8, BreaksOff(damaged::header)),
+    Family::of(
+        "profiles damaged, corrected",
+        16,
+        BreaksOff(damaged::profiles),
+    ),
+    Family::of(
+        "record C damaged, corrected",
+        6,
+        BreaksOff(damaged::statistics),
+    ),
+    Family::of("closing rules", 8, BreaksOff(closing::wrong_extremes)),
+    Family::of("grids lent short", 5, BreaksOff(grids::lent_short)),
+    Family::of(
+        "numbers and lengths",
+        4,
+        BreaksOff(grids::numbers_and_lengths),
+    ),
+    Family::of("no deliveries", 1, Whole(grids::no_deliveries)),
+    Family::of("bad scripts", 6, Whole(malformed::bad_script)),
+];
+
+/// Script `number` of the run with this seed.
+pub fn make(seed: u64, number: usize) -> Made {
+    turns::made(FAMILIES, seed, number, |make, dice| make.script(dice).bytes)
 }

@@ -11,6 +11,8 @@ pub mod shapes;
 pub use crate::block::put;
 use crate::block::{Record, BLOCK_LENGTH, HUNDREDTH, INTEGER_WIDTH, REAL_WIDTH, UNIT};
 use crate::dice::Dice;
+use crate::profile::{FIRST_POST, POSTS_OF_FIRST_BLOCK, POSTS_OF_FURTHER_BLOCK, VOID_POST};
+use crate::record_a::Header;
 use head::Head;
 use posts::Run;
 
@@ -35,10 +37,11 @@ pub struct Sent {
 pub fn plan(dice: &mut Dice, columns: i64, rows: i64) -> Plan {
     let mut head = head::head(dice, columns, rows);
     if dice.one_in(2) {
-        head.n = columns;
+        head.numbers.n = columns;
     }
-    let runs = (0..head.n).map(|_| posts::run(dice, rows)).collect();
-    let room = columns - head.n;
+    let n = head.numbers.n;
+    let runs = (0..n).map(|_| posts::run(dice, rows)).collect();
+    let room = columns - n;
     let any = dice.between(0, room);
     Plan {
         first_column: *dice.pick(&[0, any, room]),
@@ -61,14 +64,19 @@ pub fn plan_with_length(dice: &mut Dice, columns: i64, rows: i64, length: i64) -
 pub fn paper_plan(dice: &mut Dice) -> Plan {
     let of = |values: [i64; 8]| values.map(|value| value * UNIT);
     let mut head = head::head(dice, 2, 3);
-    head.system = 1;
-    head.zone = 17;
-    head.ground_unit = 2;
-    head.vertical_unit = 2;
-    head.corners = of([600, 900, 600, 960, 630, 960, 630, 900]);
-    head.spacings = [30 * UNIT, 30 * UNIT, UNIT];
-    head.accuracy = 0;
-    head.n = 2;
+    head.numbers = Header {
+        system: 1,
+        zone: 17,
+        ground_unit: 2,
+        vertical_unit: 2,
+        corners: of([600, 900, 600, 960, 630, 960, 630, 900]),
+        x_spacing: 30 * UNIT,
+        y_spacing: 30 * UNIT,
+        z_spacing: UNIT,
+        accuracy: 0,
+        n: 2,
+        ..head.numbers
+    };
     head.west = 600 * UNIT;
     head.south = 900 * UNIT;
     let run = |row, posts: &[i64]| Run {
@@ -79,7 +87,7 @@ pub fn paper_plan(dice: &mut Dice) -> Plan {
     Plan {
         head,
         first_column: 0,
-        runs: vec![run(0, &[10, -32767, 12]), run(1, &[11, 9])],
+        runs: vec![run(0, &[10, VOID_POST, 12]), run(1, &[11, 9])],
         statistics: [0; 10],
     }
 }
@@ -100,12 +108,7 @@ fn statistics(dice: &mut Dice) -> [i64; 10] {
 
 impl Plan {
     pub fn cells(&self) -> usize {
-        (self.head.columns * self.head.rows) as usize
-    }
-
-    /// Hundredths of a unit for one step of a post.
-    fn z_hundredths(&self) -> i64 {
-        self.head.spacings[2] / HUNDREDTH
+        self.head.cells()
     }
 
     /// All blocks of the sheet, each number in any of its spellings.
@@ -117,7 +120,7 @@ impl Plan {
         for (place, run) in self.runs.iter().enumerate() {
             sent.extend(self.profile_blocks(dice, place as i64, run));
         }
-        if self.head.accuracy == 1 {
+        if self.head.numbers.accuracy == 1 {
             sent.push(Sent {
                 record: Record::Statistics,
                 bytes: self.statistics_block(dice),
@@ -127,12 +130,12 @@ impl Plan {
     }
 
     fn header_block(&self, dice: &mut Dice) -> Vec<u8> {
-        let z = self.z_hundredths();
-        let filled = self.runs.iter().flat_map(|run| run.filled(z));
+        let step = self.head.numbers.step();
+        let filled = self.runs.iter().flat_map(|run| run.filled(step));
         let (least, greatest) = extremes(filled.collect());
         let mut head = self.head.clone();
-        head.least = least * HUNDREDTH;
-        head.greatest = greatest * HUNDREDTH;
+        head.numbers.stated_least = least * HUNDREDTH;
+        head.numbers.stated_greatest = greatest * HUNDREDTH;
         head.block(dice)
     }
 
@@ -147,13 +150,15 @@ impl Plan {
             let first = 25 + index * REAL_WIDTH;
             put(&mut start, first, &hand::real(dice, value, REAL_WIDTH));
         }
-        let (near, far) = run.posts.split_at(run.posts.len().min(146));
-        posts::put_posts(dice, &mut start, 145, near);
+        let (near, far) = run
+            .posts
+            .split_at(run.posts.len().min(POSTS_OF_FIRST_BLOCK));
+        posts::put_posts(dice, &mut start, FIRST_POST, near);
         let mut sent = vec![Sent {
             record: Record::ProfileStart,
             bytes: start,
         }];
-        for part in far.chunks(170) {
+        for part in far.chunks(POSTS_OF_FURTHER_BLOCK) {
             let mut rest = vec![b' '; BLOCK_LENGTH];
             posts::put_posts(dice, &mut rest, 1, part);
             sent.push(Sent {
@@ -166,10 +171,11 @@ impl Plan {
 
     /// x, y, datum, least, greatest.
     fn profile_reals(&self, place: i64, run: &Run) -> [i64; 5] {
-        let (least, greatest) = extremes(run.filled(self.z_hundredths()));
+        let numbers = &self.head.numbers;
+        let (least, greatest) = extremes(run.filled(numbers.step()));
         [
-            self.head.west + (self.first_column + place) * self.head.spacings[0],
-            self.head.south + run.row * self.head.spacings[1],
+            self.head.west + (self.first_column + place) * numbers.x_spacing,
+            self.head.south + run.row * numbers.y_spacing,
             run.datum * HUNDREDTH,
             least * HUNDREDTH,
             greatest * HUNDREDTH,

@@ -8,116 +8,40 @@ mod whole;
 
 use crate::block::BLOCK_LENGTH;
 use crate::dice::Dice;
-use crate::sheets::shapes::{long_plan, small_plan};
+use crate::sheets::shapes::long_or_small_plan;
 use crate::sheets::{Plan, Sent};
-use crate::turns::turn_of;
+use crate::turns::{self, Made};
 
-pub struct Family {
-    pub name: &'static str,
-    /// How many of every hundred streams are of this family.
-    pub share: usize,
-    /// Makes a stream for a lister that lends this many cells.
-    pub make: fn(&mut Dice, usize) -> Vec<u8>,
-}
+/// Makes a stream for a lister that lends this many cells.
+type Maker = fn(&mut Dice, usize) -> Vec<u8>;
+type Family = turns::Family<Maker>;
 
+/// Each with how many of every hundred streams are of it.
 pub const FAMILIES: &[Family] = &[
-    Family {
-        name: "whole sheets",
-        share: 7,
-        make: whole::small,
-    },
-    Family {
-        name: "low ground",
-        share: 5,
-        make: whole::low_ground,
-    },
-    Family {
-        name: "long profiles",
-        share: 6,
-        make: whole::long,
-    },
-    Family {
-        name: "wide sheets",
-        share: 3,
-        make: whole::wide,
-    },
-    Family {
-        name: "around the cells lent",
-        share: 9,
-        make: whole::around_the_cells_lent,
-    },
-    Family {
-        name: "as the writer sends them",
-        share: 5,
-        make: whole::as_sent,
-    },
-    Family {
-        name: "cut after a block",
-        share: 7,
-        make: ends::cut_after_a_block,
-    },
-    Family {
-        name: "cut inside a block",
-        share: 6,
-        make: ends::cut_inside_a_block,
-    },
-    Family {
-        name: "more after the end",
-        share: 8,
-        make: ends::more_after_the_end,
-    },
-    Family {
-        name: "record A damaged",
-        share: 10,
-        make: broken::header,
-    },
-    Family {
-        name: "profiles damaged",
-        share: 17,
-        make: broken::profiles,
-    },
-    Family {
-        name: "record C damaged",
-        share: 6,
-        make: broken::statistics,
-    },
-    Family {
-        name: "closing rules",
-        share: 7,
-        make: broken::closing,
-    },
-    Family {
-        name: "blocks out of order",
-        share: 3,
-        make: broken::out_of_order,
-    },
-    Family {
-        name: "any bytes",
-        share: 1,
-        make: broken::any_bytes,
-    },
+    Family::of("whole sheets", 7, whole::small),
+    Family::of("low ground", 5, whole::low_ground),
+    Family::of("long profiles", 6, whole::long),
+    Family::of("wide sheets", 3, whole::wide),
+    Family::of("around the cells lent", 9, whole::around_the_cells_lent),
+    Family::of("as the writer sends them", 5, whole::as_sent),
+    Family::of("cut after a block", 7, ends::cut_after_a_block),
+    Family::of("cut inside a block", 6, ends::cut_inside_a_block),
+    Family::of("more after the end", 8, ends::more_after_the_end),
+    Family::of("record A damaged", 10, broken::header),
+    Family::of("profiles damaged", 17, broken::profiles),
+    Family::of("record C damaged", 6, broken::statistics),
+    Family::of("closing rules", 7, broken::closing),
+    Family::of("blocks out of order", 3, broken::out_of_order),
+    Family::of("any bytes", 1, broken::any_bytes),
 ];
-
-pub struct Made {
-    pub family: &'static str,
-    pub bytes: Vec<u8>,
-}
 
 /// Stream `number` of the run with this seed, for a lister that lends `cells`.
 pub fn make(seed: u64, number: usize, cells: usize) -> Made {
-    let family = &FAMILIES[turn_of(number, FAMILIES.iter().map(|family| family.share))];
-    Made {
-        family: family.name,
-        bytes: (family.make)(&mut Dice::numbered(seed, number), cells),
-    }
+    turns::made(FAMILIES, seed, number, |make, dice| make(dice, cells))
 }
 
 fn some_plan(dice: &mut Dice) -> Plan {
-    if dice.one_in(2) {
-        long_plan(dice)
-    } else {
-        small_plan(dice)
-    }
+    long_or_small_plan(dice, 2)
 }
 
 fn joined(blocks: &[Sent]) -> Vec<u8> {

@@ -1,7 +1,7 @@
 //! The writer: a template record A and a grid, made into the blocks of a sheet. All the
 //! blocks are written down, and one of them is picked out when one is asked for.
 
-use crate::block::{BLOCK_LENGTH, HUNDREDTH};
+use crate::block::{demand, BLOCK_LENGTH, HUNDREDTH};
 use crate::kind::{GRID_TOO_SHORT, NO_SUCH_BLOCK, UNFIT_CELL, WRONG_LENGTH};
 use crate::meaning::VOID_CELL;
 use crate::profile::{FIRST_POST, POSTS_OF_FIRST_BLOCK, POSTS_OF_FURTHER_BLOCK, VOID_POST};
@@ -43,7 +43,7 @@ pub fn sheet_blocks(template: &[u8], grid: &[i32]) -> Result<Vec<Written>, Refus
     let header = record_a::check(template)?;
     demand(grid.len() >= header.cells(), GRID_TOO_SHORT, 0)?;
     let cells = &grid[..header.cells()];
-    check_cells(cells, z_hundredths(&header))?;
+    check_cells(cells, header.step())?;
     let mut blocks = vec![header_block(template, &header, cells)];
     let rows = header.rows().count() as usize;
     for (column, cells) in cells.chunks(rows).enumerate() {
@@ -52,27 +52,18 @@ pub fn sheet_blocks(template: &[u8], grid: &[i32]) -> Result<Vec<Written>, Refus
     Ok(blocks)
 }
 
-fn demand(holds: bool, kind: u32, number: usize) -> Result<(), Refusal> {
-    if holds {
-        Ok(())
-    } else {
-        Err((kind, number as u32))
-    }
-}
-
-/// Hundredths of a unit in one step of a post; a z spacing is a whole number of them.
-fn z_hundredths(header: &Header) -> i64 {
-    header.z_spacing / HUNDREDTH
-}
-
 /// The first cell, in cell order, that no post can stand for (READINGS 32).
-fn check_cells(cells: &[i32], z: i64) -> Result<(), Refusal> {
+fn check_cells(cells: &[i32], step: i64) -> Result<(), Refusal> {
     for (place, &cell) in cells.iter().enumerate() {
-        let height = i64::from(cell);
-        let fits = height % z == 0 && QUOTIENTS.contains(&(height / z));
-        demand(cell == VOID_CELL || fits, UNFIT_CELL, place)?;
+        demand(fits(cell, step), UNFIT_CELL, place)?;
     }
     Ok(())
+}
+
+/// Whether a post of this step, in hundredths, can stand for the cell.
+pub fn fits(cell: i32, step: i64) -> bool {
+    let height = i64::from(cell);
+    cell == VOID_CELL || height % step == 0 && QUOTIENTS.contains(&(height / step))
 }
 
 /// Least and greatest of the filled cells, in billionths; zeros if none is filled.
@@ -113,11 +104,11 @@ fn rows_of_profile(cells: &[i32]) -> RangeInclusive<usize> {
     first..=last
 }
 
-fn post_of(cell: i32, z: i64) -> i64 {
+fn post_of(cell: i32, step: i64) -> i64 {
     if cell == VOID_CELL {
         VOID_POST
     } else {
-        i64::from(cell) / z
+        i64::from(cell) / step
     }
 }
 
@@ -125,8 +116,8 @@ fn profile_blocks(header: &Header, column: usize, cells: &[i32]) -> Vec<Written>
     let rows = rows_of_profile(cells);
     let x = header.columns().start() + column as i64 * header.x_spacing;
     let y = header.rows().start() + *rows.start() as i64 * header.y_spacing;
-    let z = z_hundredths(header);
-    let posts: Vec<i64> = cells[rows].iter().map(|&cell| post_of(cell, z)).collect();
+    let post = |&cell: &i32| post_of(cell, header.step());
+    let posts: Vec<i64> = cells[rows].iter().map(post).collect();
     let (near, far) = posts.split_at(posts.len().min(POSTS_OF_FIRST_BLOCK));
     let (one, number, datum) = (1, column as i64 + 1, 0);
     let mut start = BLANK;

@@ -3,7 +3,9 @@
 
 mod common;
 
-use common::{blocks_before_statistics, paper_blocks, put, statistics};
+use common::{
+    blocks_before_statistics, demand_all_seen, demand_the_same_again, paper_blocks, put, statistics,
+};
 use second::lister::{list, Outcome};
 use second::load::{deliver, Answer, Session};
 use second::meaning::Refusal;
@@ -180,24 +182,12 @@ fn streams_show_everything_there_is_to_see() {
         let made = streams::make(7, number, ROOM);
         seen.extend(shown(&made.bytes, ROOM, &list(&made.bytes, ROOM)));
     }
-    let missing: Vec<_> = names()
-        .into_iter()
-        .filter(|name| !seen.contains(name))
-        .collect();
-    assert!(missing.is_empty(), "{missing:?}");
+    demand_all_seen(names(), &seen);
 }
 
 #[test]
 fn a_stream_is_the_same_whenever_it_is_made() {
-    let mut families = BTreeSet::new();
-    for number in 0..ALL_SHARES {
-        let made = streams::make(5, number, ROOM);
-        assert!(made.bytes == streams::make(5, number, ROOM).bytes);
-        families.insert(made.family);
-    }
-    assert_eq!(families.len(), FAMILIES.len());
-    let shares: usize = FAMILIES.iter().map(|family| family.share).sum();
-    assert_eq!(shares, ALL_SHARES);
+    demand_the_same_again(FAMILIES, |number| streams::make(5, number, ROOM));
 }
 
 #[test]

@@ -4,12 +4,13 @@
 mod common;
 
 use common::{
-    block_of, blocks_before_statistics, paper_blocks, paper_header, put, statistics, PAPER_CELLS,
+    after, block_of, blocks_before_statistics, demand_the_papers_sheet, paper_blocks, paper_header,
+    put, statistics, PAPER_CELLS, PROFILES,
 };
 use second::block::{HUNDREDTH, UNIT};
 use second::dice::Dice;
 use second::load::{deliver, Answer, Session};
-use second::meaning::{Figures, Refusal};
+use second::meaning::Refusal;
 use second::profile::elevation;
 use second::scripts::accident;
 use second::sheets::paper_plan;
@@ -20,20 +21,10 @@ fn refused(kind: u32, block: u32, byte: u32) -> Answer {
     Answer::Refused(Refusal { kind, block, byte })
 }
 
-/// A fresh session that has taken these blocks, and its grid of sevens.
-fn after(blocks: &[Vec<u8>]) -> (Session, Vec<i32>) {
-    let (mut session, mut grid) = (Session::fresh(), vec![7; ROOM]);
-    for (number, block) in blocks.iter().enumerate() {
-        let answer = deliver(&mut session, number as u32, block, &mut grid);
-        assert_eq!(answer, Answer::Taken, "block {number}");
-    }
-    (session, grid)
-}
-
 /// The answer to `bytes` after the first blocks of the paper's sheet; a refusal must
 /// leave all as it was.
 fn answer_after(taken: usize, number: u32, bytes: &[u8], lent: usize) -> Answer {
-    let (mut session, mut grid) = after(&paper_blocks()[..taken]);
+    let (mut session, mut grid) = after(&paper_blocks()[..taken], ROOM);
     let before = (session.clone(), grid.clone());
     let answer = deliver(&mut session, number, bytes, &mut grid[..lent]);
     if answer != Answer::Taken {
@@ -44,20 +35,7 @@ fn answer_after(taken: usize, number: u32, bytes: &[u8], lent: usize) -> Answer 
 
 #[test]
 fn the_papers_sheet() {
-    let blocks = paper_blocks();
-    let (session, grid) = after(&blocks);
-    assert_eq!(grid[..6], PAPER_CELLS);
-    assert_eq!(grid[6..], [7, 7]);
-    let figures = Figures {
-        closed: 2,
-        posts: 5,
-        filled: 4,
-        least: 900,
-        greatest: 1200,
-    };
-    assert_eq!(session.figures(), figures);
-    assert_eq!(session.taken(), 3);
-    assert!(session.sheet().is_some_and(|sheet| sheet.complete()));
+    demand_the_papers_sheet(&paper_blocks());
 }
 
 #[test]
@@ -70,7 +48,7 @@ fn the_papers_sheet_in_any_hand() {
             .into_iter()
             .map(|b| b.bytes)
             .collect();
-        let (session, grid) = after(&blocks);
+        let (session, grid) = after(&blocks, ROOM);
         assert_eq!(grid[..6], PAPER_CELLS);
         assert_eq!(session.figures().posts, 5);
     }
@@ -80,12 +58,12 @@ fn the_papers_sheet_in_any_hand() {
 fn cells_after_each_block() {
     let blocks = paper_blocks();
     let void = i32::MIN;
-    assert_eq!(after(&blocks[..0]).1, [7; ROOM]);
+    assert_eq!(after(&blocks[..0], ROOM).1, [7; ROOM]);
     assert_eq!(
-        after(&blocks[..1]).1,
+        after(&blocks[..1], ROOM).1,
         [void, void, void, void, void, void, 7, 7]
     );
-    let (session, grid) = after(&blocks[..2]);
+    let (session, grid) = after(&blocks[..2], ROOM);
     assert_eq!(grid, [1000, void, 1200, void, void, void, 7, 7]);
     assert_eq!((session.figures().posts, session.figures().filled), (3, 2));
 }
@@ -212,7 +190,7 @@ fn closing_rules() {
     for (first, text) in [(739, "8.0"), (763, "13.0")] {
         let mut blocks = paper_blocks();
         put(&mut blocks[0], first, &format!("{text:24}"));
-        let (mut session, mut grid) = after(&blocks[..2]);
+        let (mut session, mut grid) = after(&blocks[..2], ROOM);
         let answer = deliver(&mut session, 2, &blocks[2], &mut grid);
         assert_eq!(answer, refused(11, 0, first as u32));
         // Block 0 was taken, so sending it right does not help.
@@ -243,7 +221,7 @@ fn a_profile_of_voids_states_zeros() {
 fn record_c() {
     let blocks = blocks_before_statistics();
     let answer_to = |bytes: &[u8]| {
-        let (mut session, mut grid) = after(&blocks);
+        let (mut session, mut grid) = after(&blocks, ROOM);
         assert!(!session.sheet().expect("block 0 is taken").complete());
         deliver(&mut session, 3, bytes, &mut grid)
     };
@@ -311,21 +289,10 @@ fn blocks_of_profiles_of_every_length() {
     put(&mut header, 739, &format!("{:24}{:24}", 5, 5));
     put(&mut header, 829, "         1.0");
     put(&mut header, 859, "     1");
-    for (posts, count) in [
-        (1, 1),
-        (146, 1),
-        (147, 2),
-        (316, 2),
-        (317, 3),
-        (486, 3),
-        (487, 4),
-        (1201, 8),
-        (2048, 13),
-    ] {
+    for (posts, count) in PROFILES {
         let blocks = blocks_of_profile(posts);
         assert_eq!(blocks.len(), count);
-        let (mut session, mut grid) = (Session::fresh(), vec![7; 2048]);
-        assert_eq!(deliver(&mut session, 0, &header, &mut grid), Answer::Taken);
+        let (mut session, mut grid) = after(&[&header], 2048);
         for (place, block) in blocks.iter().enumerate() {
             let number = place as u32 + 1;
             assert_eq!(

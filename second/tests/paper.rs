@@ -2,31 +2,13 @@
 
 mod common;
 
-use common::PAPER_CELLS;
-use second::load::{deliver, Answer, Session};
-use second::meaning::Figures;
+use common::demand_the_papers_sheet;
 use second::paper;
 use second::record_a;
 
 #[test]
 fn it_loads_as_the_cells_and_counts_of_the_paper() {
-    let (mut session, mut grid) = (Session::fresh(), [7; 8]);
-    for (number, block) in paper::blocks().iter().enumerate() {
-        let answer = deliver(&mut session, number as u32, block, &mut grid);
-        assert_eq!(answer, Answer::Taken, "block {number}");
-    }
-    assert_eq!(grid[..6], PAPER_CELLS);
-    assert_eq!(grid[6..], [7, 7]);
-    let figures = Figures {
-        closed: 2,
-        posts: 5,
-        filled: 4,
-        least: 900,
-        greatest: 1200,
-    };
-    assert_eq!(session.figures(), figures);
-    assert_eq!(session.taken(), 3);
-    assert!(session.sheet().expect("taken").complete());
+    demand_the_papers_sheet(&paper::blocks());
 }
 
 /// The header typed out by hand for the other tests differs in its texts alone.

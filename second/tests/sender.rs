@@ -2,12 +2,11 @@
 
 mod common;
 
-use common::{paper_header, put, PAPER_CELLS};
+use common::{demand_all_seen, demand_the_same_again, paper_header, put, PAPER_CELLS};
 use second::orders::shown::{names, shown};
 use second::orders::{self, Order, FAMILIES};
 use second::paper;
 use second::sender::{run, Outcome};
-use second::turns::ALL_SHARES;
 use std::collections::BTreeSet;
 
 fn order(template: Vec<u8>, cells: &[i32], more: &[u8]) -> Vec<u8> {
@@ -82,22 +81,10 @@ fn orders_show_everything_there_is_to_see() {
         let made = orders::make(7, number);
         seen.extend(shown(&made.bytes, &run(&made.bytes)));
     }
-    let missing: Vec<_> = names()
-        .into_iter()
-        .filter(|name| !seen.contains(name))
-        .collect();
-    assert!(missing.is_empty(), "{missing:?}");
+    demand_all_seen(names(), &seen);
 }
 
 #[test]
 fn an_order_is_the_same_whenever_it_is_made() {
-    let mut families = BTreeSet::new();
-    for number in 0..ALL_SHARES {
-        let made = orders::make(5, number);
-        assert!(made.bytes == orders::make(5, number).bytes);
-        families.insert(made.family);
-    }
-    assert_eq!(families.len(), FAMILIES.len());
-    let shares: usize = FAMILIES.iter().map(|family| family.share).sum();
-    assert_eq!(shares, ALL_SHARES);
+    demand_the_same_again(FAMILIES, |number| orders::make(5, number));
 }

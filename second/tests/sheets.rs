@@ -1,6 +1,9 @@
 //! That what is called a valid header or sheet is one, that every number reads back
 //! from every hand, and that scripts are made the same again from the same seed.
 
+mod common;
+
+use common::demand_the_same_again;
 use second::block::{HUNDREDTH, UNIT};
 use second::dice::Dice;
 use second::load::{deliver, Answer, Session};
@@ -10,7 +13,6 @@ use second::record_a;
 use second::replay;
 use second::scripts;
 use second::sheets::{hand, head, plan, posts, Plan};
-use std::collections::BTreeSet;
 
 #[test]
 fn numbers_read_back_from_every_hand() {
@@ -48,8 +50,7 @@ fn valid_headers_are_valid_and_of_the_size_asked_for() {
         let (xs, ys) = (header.columns(), header.rows());
         assert_eq!((xs.count(), ys.count()), (columns, rows));
         assert_eq!((xs.start(), ys.start()), (head.west, head.south));
-        assert_eq!(header.corners, head.corners);
-        assert_eq!((header.n, header.z_spacing), (head.n, head.spacings[2]));
+        assert_eq!(header, head.numbers);
     }
 }
 
@@ -61,7 +62,7 @@ fn cells_of(plan: &Plan) -> Vec<i32> {
         for (step, &post) in run.posts.iter().enumerate() {
             let cell = column * plan.head.rows + run.row + step as i64;
             if post != -32767 {
-                let hundredths = post * plan.head.spacings[2] / HUNDREDTH + run.datum;
+                let hundredths = post * plan.head.numbers.z_spacing / HUNDREDTH + run.datum;
                 cells[cell as usize] = hundredths as i32;
             }
         }
@@ -103,15 +104,7 @@ fn valid_sheets_load_as_the_cells_they_were_planned_with() {
 
 #[test]
 fn a_script_is_the_same_whenever_it_is_made() {
-    let mut families = BTreeSet::new();
-    for number in 0..100 {
-        let made = scripts::make(5, number);
-        assert_eq!(made.bytes, scripts::make(5, number).bytes);
-        families.insert(made.family);
-    }
-    assert_eq!(families.len(), scripts::FAMILIES.len());
-    let shares: usize = scripts::FAMILIES.iter().map(|family| family.share).sum();
-    assert_eq!(shares, 100);
+    demand_the_same_again(scripts::FAMILIES, |number| scripts::make(5, number));
 }
 
 #[test]
@@ -120,7 +113,7 @@ fn whole_sheets_are_taken_whole() {
     for family in scripts::FAMILIES {
         if family.name.starts_with("whole sheets") {
             for _ in 0..30 {
-                let outcome = replay::run(&(family.make)(&mut dice).bytes);
+                let outcome = replay::run(&family.make.script(&mut dice).bytes);
                 let (last, others) = outcome.events.split_last().expect("never empty");
                 assert!(others.iter().all(|event| event.answer == Answer::Taken));
                 assert!(last.answer == Answer::Taken || last.awaited.is_none());

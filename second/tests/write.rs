@@ -3,10 +3,9 @@
 
 mod common;
 
-use common::{paper_header, put, PAPER_CELLS, VOID};
+use common::{after, paper_header, put, PAPER_CELLS, PROFILES, VOID};
 use second::block::{HUNDREDTH, UNIT};
 use second::dice::Dice;
-use second::load::{deliver, Answer, Session};
 use second::number;
 use second::paper;
 use second::record_a;
@@ -177,26 +176,18 @@ fn one_column(rows: usize) -> Vec<u8> {
 
 #[test]
 fn blocks_of_profiles() {
-    for (posts, count) in [
-        (1, 1),
-        (146, 1),
-        (147, 2),
-        (316, 2),
-        (317, 3),
-        (1201, 8),
-        (2048, 13),
-    ] {
+    for (posts, count) in PROFILES {
         let template = one_column(posts);
         let mut cells = vec![500; posts];
-        assert_eq!(block_count(&template, &cells), Ok(1 + count));
-        let last = write_block(&template, &cells, count, 1024).expect("sent");
+        assert_eq!(block_count(&template, &cells), Ok(1 + count as u32));
+        let last = write_block(&template, &cells, count as u32, 1024).expect("sent");
         assert_eq!(
             last.iter().rposition(|&byte| byte == b'5'),
             Some(last_byte(posts) - 1)
         );
         if posts > 1 {
             cells[posts - 1] = VOID;
-            let shorter = second::write::sheet_blocks(&template, &cells).expect("sent");
+            let shorter = sheet_blocks(&template, &cells).expect("sent");
             assert_eq!(field(&shorter[1], 13, 6), format!("{:6}", posts - 1));
         }
     }
@@ -278,7 +269,7 @@ fn sheets_read_back_as_the_cells_given() {
         let head = head::head(&mut dice, columns, rows);
         let template = head.block(&mut dice);
         let header = record_a::check(&template).expect("valid");
-        let step = (header.z_spacing / HUNDREDTH) as i32;
+        let step = header.step() as i32;
         let voids = *dice.pick(&[0, 10, 60, 100]);
         let mut cells = vec![VOID; header.cells()];
         for cell in &mut cells {
@@ -286,12 +277,8 @@ fn sheets_read_back_as_the_cells_given() {
                 *cell = dice.between(-32766, 32767) as i32 * step;
             }
         }
-        let (mut session, mut grid) = (Session::fresh(), vec![7; cells.len() + 1]);
         let blocks = sheet_blocks(&template, &cells).expect("sent");
-        for (number, block) in blocks.iter().enumerate() {
-            let answer = deliver(&mut session, number as u32, block, &mut grid);
-            assert_eq!(answer, Answer::Taken);
-        }
+        let (session, mut grid) = after(&blocks, cells.len() + 1);
         assert!(session.sheet().expect("taken").complete());
         assert_eq!(grid.pop(), Some(7));
         assert_eq!(grid, cells);

@@ -1,22 +1,19 @@
-//! Compares the field readings of the C calls, asked through PROGRAM (`examples/answers.c`), with those of number.rs.
-//! compare_fields PROGRAM [SEED]
-//! Status 0: no difference. Status 1: a difference, or too little was compared.
+//! Compares the field readings of the C calls, asked through PROGRAM (`examples/answers.c`),
+//! with those of number.rs. Status 0: no difference. Status 1: a difference, or too little
+//! was compared. Usage: compare_fields PROGRAM [SEED]
 
-use second::asking::{eight, four, Asking};
+use second::asking::{ask_all, eight, four, Question};
 use second::number;
 use second::texts::FAMILIES;
 use std::process::exit;
 
+const USAGE: &str = "compare_fields PROGRAM [SEED]";
 const USUAL_SEED: u64 = 19_970_101;
 const FEWEST_TEXTS: u64 = 1_000_000;
 const KINDS: [u32; 5] = [0, 1, 6, 7, 8];
 /// Kinds that must turn up, or the run has shown too little.
 const INTEGER_KINDS: &[u32] = &[0, 1, 6];
 const REAL_KINDS: &[u32] = &[0, 1, 6, 7, 8];
-/// The C side lends each text in two surroundings, and answers for both.
-const SURROUNDINGS: usize = 2;
-/// Bytes of an answer: kind and value of an integer, kind and value of a real.
-const ANSWER: usize = 24;
 /// A text is shown up to here; longer ones only test the length.
 const SHOWN: usize = 64;
 
@@ -24,55 +21,55 @@ const SHOWN: usize = 64;
 type Tally = [u64; KINDS.len()];
 
 /// A text with what the second program reads in it.
-struct Question {
+struct Readings {
     text: Vec<u8>,
     integer: (u32, i64),
     real: (u32, i64),
 }
 
-struct Comparison {
+impl Readings {
+    fn of(text: &[u8]) -> Readings {
+        Readings {
+            text: text.to_vec(),
+            integer: number::integer(text),
+            real: number::real(text),
+        }
+    }
+}
+
+impl Question for Readings {
+    const SORT: u8 = b'f';
+    /// Kind and value of an integer, kind and value of a real.
+    const ANSWER: usize = 24;
+
+    fn bytes(&self) -> &[u8] {
+        &self.text
+    }
+
+    fn demand_same(&self, answer: &[u8]) {
+        let integer = (four(answer, 0), eight(answer, 4));
+        let real = (four(answer, 12), eight(answer, 16));
+        demand_same_reading("integer", &self.text, self.integer, integer);
+        demand_same_reading("real", &self.text, self.real, real);
+    }
+}
+
+#[derive(Default)]
+struct Counts {
     texts: u64,
     integers: Tally,
     reals: Tally,
-    desk: Asking,
-    asked: Vec<Question>,
 }
 
-impl Comparison {
-    fn compare(&mut self, text: &[u8]) {
-        let (integer, real) = (number::integer(text), number::real(text));
-        self.asked.push(Question {
-            text: text.to_vec(),
-            integer,
-            real,
-        });
-        if self.desk.ask(b'f', text, SURROUNDINGS * ANSWER) {
-            self.hold_against();
-        }
+impl Counts {
+    fn add(&mut self, readings: &Readings) {
         self.texts += 1;
-        count(&mut self.integers, integer.0);
-        count(&mut self.reals, real.0);
-    }
-
-    fn hold_against(&mut self) {
-        let answers = self.desk.take(self.asked.len() * SURROUNDINGS * ANSWER);
-        let pairs = answers.chunks(SURROUNDINGS * ANSWER);
-        for (question, both) in self.asked.iter().zip(pairs) {
-            for answer in both.chunks(ANSWER) {
-                let (integer, real) = (
-                    (four(answer, 0), eight(answer, 4)),
-                    (four(answer, 12), eight(answer, 16)),
-                );
-                demand_same("integer", &question.text, question.integer, integer);
-                demand_same("real", &question.text, question.real, real);
-            }
-        }
-        self.asked.clear();
+        count(&mut self.integers, readings.integer.0);
+        count(&mut self.reals, readings.real.0);
     }
 }
 
-/// A difference ends the run.
-fn demand_same(reading: &str, text: &[u8], second: (u32, i64), desk: (u32, i64)) {
+fn demand_same_reading(reading: &str, text: &[u8], second: (u32, i64), desk: (u32, i64)) {
     if second == desk {
         return;
     }
@@ -94,13 +91,13 @@ fn count(tally: &mut Tally, kind: u32) {
     tally[place.expect("number.rs answers only the kinds of the table")] += 1;
 }
 
-fn print_table(comparison: &Comparison) {
-    println!("texts compared {}", comparison.texts);
+fn print_table(counts: &Counts) {
+    println!("texts compared {}", counts.texts);
     println!("{:>5} {:>10} {:>10}", "kind", "integers", "reals");
     for (place, kind) in KINDS.iter().enumerate() {
         println!(
             "{kind:>5} {:>10} {:>10}",
-            comparison.integers[place], comparison.reals[place]
+            counts.integers[place], counts.reals[place]
         );
     }
 }
@@ -116,22 +113,19 @@ fn never_seen(tally: &Tally, wanted: &[u32]) -> Vec<u32> {
 }
 
 /// Says what the run left out, if anything.
-fn shortcomings(comparison: &Comparison) -> Vec<String> {
+fn shortcomings(counts: &Counts) -> Vec<String> {
     let mut found = Vec::new();
-    if comparison.texts < FEWEST_TEXTS {
+    if counts.texts < FEWEST_TEXTS {
         found.push(format!("fewer than {FEWEST_TEXTS} texts"));
     }
-    for kind in never_seen(&comparison.integers, INTEGER_KINDS) {
+    for kind in never_seen(&counts.integers, INTEGER_KINDS) {
         found.push(format!("kind {kind} never seen for integers"));
     }
-    for kind in never_seen(&comparison.reals, REAL_KINDS) {
+    for kind in never_seen(&counts.reals, REAL_KINDS) {
         found.push(format!("kind {kind} never seen for reals"));
     }
-    for (reading, tally) in [
-        ("integers", &comparison.integers),
-        ("reals", &comparison.reals),
-    ] {
-        if tally[0] * 10 < comparison.texts {
+    for (reading, tally) in [("integers", &counts.integers), ("reals", &counts.reals)] {
+        if tally[0] * 10 < counts.texts {
             found.push(format!(
                 "fewer than a tenth of the texts are good {reading}"
             ));
@@ -141,21 +135,12 @@ fn shortcomings(comparison: &Comparison) -> Vec<String> {
 }
 
 fn main() {
-    let (desk, mut dice) = Asking::begin("compare_fields PROGRAM [SEED]", USUAL_SEED);
-    let mut comparison = Comparison {
-        texts: 0,
-        integers: Tally::default(),
-        reals: Tally::default(),
-        desk,
-        asked: Vec::new(),
-    };
-    for family in FAMILIES {
-        let before = comparison.texts;
-        (family.make)(&mut dice, &mut |text| comparison.compare(text));
-        println!("{:<20} {:>8}", family.name, comparison.texts - before);
-    }
-    comparison.hold_against();
-    print_table(&comparison);
-    let found = shortcomings(&comparison);
-    comparison.desk.end(&found);
+    let mut counts = Counts::default();
+    let desk = ask_all(USAGE, USUAL_SEED, FAMILIES, |text| {
+        let readings = Readings::of(text);
+        counts.add(&readings);
+        readings
+    });
+    print_table(&counts);
+    desk.end(shortcomings(&counts))
 }

@@ -19,21 +19,14 @@ fn compare(asked: &Asked, number: usize) -> Result<Note, Mismatch> {
     let cells = asked.fourth.unwrap_or(USUAL_CELLS);
     let made = streams::make(asked.seed, number, cells);
     let expected = lister::list(&made.bytes, cells);
-    let difference = match comparing::output_of(asked, number, &made.bytes) {
-        Err(reason) => Some(format!("the program {reason}")),
-        Ok(found) => line_difference(expected.output().as_bytes(), &found),
-    };
-    match difference {
-        None => Ok(Note {
-            family: made.family,
-            outcome: outcome_name(&expected),
-            shown: shown(&made.bytes, cells, &expected),
-        }),
-        Some(lines) => Err(Mismatch {
-            words: format!("mismatch in stream {number}, {}\n{lines}", made.family),
-            input: made.bytes,
-        }),
-    }
+    comparing::demand_same(asked, "stream", number, &made, |found| {
+        line_difference(expected.output().as_bytes(), found)
+    })?;
+    Ok(Note {
+        family: made.family,
+        outcome: outcome_name(&expected),
+        shown: shown(&made.bytes, cells, &expected),
+    })
 }
 
 fn outcome_name(outcome: &Outcome) -> String {
@@ -56,9 +49,6 @@ fn wanted() -> Wanted {
 }
 
 fn main() {
-    let asked = comparing::asked(USAGE, USUAL_SHEETS);
-    println!("seed {}", asked.seed);
-    let compared = comparing::on_all_processors(asked.inputs, |number| compare(&asked, number));
-    let notes = compared.unwrap_or_else(|mismatch| comparing::fail("compare_lister", &mismatch));
+    let notes = comparing::notes_of(USAGE, USUAL_SHEETS, compare);
     comparing::finish(&comparing::tally(&notes, &wanted()));
 }

@@ -1,19 +1,17 @@
-//! Compares the check of a record A, the origin and the name of the C calls, asked through PROGRAM
-//! (`examples/answers.c`), with those of record_a.rs. compare_record_a PROGRAM [SEED]. Status 0: no difference. Status 1: a difference, or too
-//! little was compared.
+//! Compares the check of a record A, the origin and the name of the C calls, asked through
+//! PROGRAM (`examples/answers.c`), with those of record_a.rs. Status 0: no difference.
+//! Status 1: a difference, or too little was compared.
+//! Usage: compare_record_a PROGRAM [SEED]
 
-use second::asking::{four, Asking};
+use second::asking::{ask_all, four, Question};
 use second::headers::FAMILIES;
 use second::record_a;
 use std::collections::BTreeMap;
 use std::process::exit;
 
+const USAGE: &str = "compare_record_a PROGRAM [SEED]";
 const USUAL_SEED: u64 = 19_970_102;
 const FEWEST_BLOCKS: u64 = 200_000;
-/// The C side lends each block in two surroundings, and answers for both.
-const SURROUNDINGS: usize = 2;
-/// Bytes of an answer: kind, byte, origin, length of the name.
-const ANSWER: usize = 16;
 
 /// What one program says of a block.
 #[derive(Clone, Copy, Debug, PartialEq)]
@@ -22,15 +20,6 @@ struct Findings {
     byte: u32,
     origin: u32,
     name_length: usize,
-}
-
-struct Comparison {
-    blocks: u64,
-    faults: BTreeMap<(u32, u32), u64>,
-    origins: BTreeMap<u32, u64>,
-    name_lengths: BTreeMap<usize, u64>,
-    desk: Asking,
-    asked: Vec<(Vec<u8>, Findings)>,
 }
 
 fn second_findings(block: &[u8]) -> Findings {
@@ -52,44 +41,53 @@ fn desk_findings(answer: &[u8]) -> Findings {
     }
 }
 
-impl Comparison {
-    fn compare(&mut self, block: &[u8]) {
-        let second = second_findings(block);
-        self.asked.push((block.to_vec(), second));
-        self.blocks += 1;
-        *self.faults.entry((second.kind, second.byte)).or_default() += 1;
-        *self.origins.entry(second.origin).or_default() += 1;
-        *self.name_lengths.entry(second.name_length).or_default() += 1;
-        if self.desk.ask(b'a', block, SURROUNDINGS * ANSWER) {
-            self.hold_against();
-        }
+/// A block, counted from 0, with what the second program says of it.
+struct Judged {
+    number: u64,
+    block: Vec<u8>,
+    findings: Findings,
+}
+
+impl Question for Judged {
+    const SORT: u8 = b'a';
+    /// Kind, byte, origin, length of the name.
+    const ANSWER: usize = 16;
+
+    fn bytes(&self) -> &[u8] {
+        &self.block
     }
 
-    fn hold_against(&mut self) {
-        let answers = self.desk.take(self.asked.len() * SURROUNDINGS * ANSWER);
-        let first = self.blocks - self.asked.len() as u64;
-        let pairs = answers.chunks(SURROUNDINGS * ANSWER);
-        for (place, ((block, second), both)) in self.asked.iter().zip(pairs).enumerate() {
-            for answer in both.chunks(ANSWER) {
-                demand_same(first + place as u64, block, *second, desk_findings(answer));
-            }
+    fn demand_same(&self, answer: &[u8]) {
+        let desk = desk_findings(answer);
+        if self.findings == desk {
+            return;
         }
-        self.asked.clear();
+        let (number, length) = (self.number, self.block.len());
+        println!("mismatch in block {number} of {length} bytes");
+        println!("second  {:?}", self.findings);
+        println!("desk    {desk:?}");
+        for (row, bytes) in self.block.chunks(64).enumerate().take(16) {
+            println!("{:>5}  \"{}\"", row * 64 + 1, bytes.escape_ascii());
+        }
+        exit(1);
     }
 }
 
-/// A difference ends the run.
-fn demand_same(number: u64, block: &[u8], second: Findings, desk: Findings) {
-    if second == desk {
-        return;
+#[derive(Default)]
+struct Counts {
+    blocks: u64,
+    faults: BTreeMap<(u32, u32), u64>,
+    origins: BTreeMap<u32, u64>,
+    name_lengths: BTreeMap<usize, u64>,
+}
+
+impl Counts {
+    fn add(&mut self, found: Findings) {
+        self.blocks += 1;
+        *self.faults.entry((found.kind, found.byte)).or_default() += 1;
+        *self.origins.entry(found.origin).or_default() += 1;
+        *self.name_lengths.entry(found.name_length).or_default() += 1;
     }
-    println!("mismatch in block {number} of {} bytes", block.len());
-    println!("second  {second:?}");
-    println!("desk    {desk:?}");
-    for (row, bytes) in block.chunks(64).enumerate().take(16) {
-        println!("{:>5}  \"{}\"", row * 64 + 1, bytes.escape_ascii());
-    }
-    exit(1);
 }
 
 /// Every (kind, byte) that the rules of record A can give.
@@ -107,62 +105,56 @@ fn faults_that_occur() -> Vec<(u32, u32)> {
 }
 
 /// Says what the run left out, or met though no rule gives it.
-fn shortcomings(comparison: &Comparison) -> Vec<String> {
+fn shortcomings(counts: &Counts) -> Vec<String> {
     let mut found = Vec::new();
-    if comparison.blocks < FEWEST_BLOCKS {
+    if counts.blocks < FEWEST_BLOCKS {
         found.push(format!("fewer than {FEWEST_BLOCKS} blocks"));
     }
-    let passed = comparison.faults.get(&(0, 0)).unwrap_or(&0);
-    if passed * 10 < comparison.blocks {
+    let passed = counts.faults.get(&(0, 0)).unwrap_or(&0);
+    if passed * 10 < counts.blocks {
         found.push("fewer than a tenth of the blocks pass".to_string());
     }
     let known = faults_that_occur();
     for (kind, byte) in &known {
-        if !comparison.faults.contains_key(&(*kind, *byte)) {
+        if !counts.faults.contains_key(&(*kind, *byte)) {
             found.push(format!("kind {kind} at {byte} never seen"));
         }
     }
-    for fault in comparison.faults.keys() {
+    for fault in counts.faults.keys() {
         if !known.contains(fault) {
             found.push(format!("kind {} at {} has no rule", fault.0, fault.1));
         }
     }
-    for origin in (0..=6).filter(|origin| !comparison.origins.contains_key(origin)) {
+    for origin in (0..=6).filter(|origin| !counts.origins.contains_key(origin)) {
         found.push(format!("origin {origin} never seen"));
     }
-    for length in (0..=40).filter(|length| !comparison.name_lengths.contains_key(length)) {
+    for length in (0..=40).filter(|length| !counts.name_lengths.contains_key(length)) {
         found.push(format!("no name of {length} bytes"));
     }
     found
 }
 
-fn print_tables(comparison: &Comparison) {
-    println!("blocks compared {}", comparison.blocks);
+fn print_tables(counts: &Counts) {
+    println!("blocks compared {}", counts.blocks);
     println!("{:>5} {:>5} {:>8}", "kind", "byte", "blocks");
-    for ((kind, byte), times) in &comparison.faults {
+    for ((kind, byte), times) in &counts.faults {
         println!("{kind:>5} {byte:>5} {times:>8}");
     }
-    println!("origins {:?}", comparison.origins);
-    println!("name lengths {:?}", comparison.name_lengths);
+    println!("origins {:?}", counts.origins);
+    println!("name lengths {:?}", counts.name_lengths);
 }
 
 fn main() {
-    let (desk, mut dice) = Asking::begin("compare_record_a PROGRAM [SEED]", USUAL_SEED);
-    let mut comparison = Comparison {
-        blocks: 0,
-        faults: BTreeMap::new(),
-        origins: BTreeMap::new(),
-        name_lengths: BTreeMap::new(),
-        desk,
-        asked: Vec::new(),
-    };
-    for family in FAMILIES {
-        let before = comparison.blocks;
-        (family.make)(&mut dice, &mut |block| comparison.compare(block));
-        println!("{:<22} {:>8}", family.name, comparison.blocks - before);
-    }
-    comparison.hold_against();
-    print_tables(&comparison);
-    let found = shortcomings(&comparison);
-    comparison.desk.end(&found);
+    let mut counts = Counts::default();
+    let desk = ask_all(USAGE, USUAL_SEED, FAMILIES, |block| {
+        let (number, findings) = (counts.blocks, second_findings(block));
+        counts.add(findings);
+        Judged {
+            number,
+            block: block.to_vec(),
+            findings,
+        }
+    });
+    print_tables(&counts);
+    desk.end(shortcomings(&counts))
 }

@@ -3,7 +3,7 @@
 //! or too little was compared. Usage: compare_replay PROGRAM [SEED] [SCRIPTS]
 
 use second::block::Record;
-use second::comparing::{self, Asked, Mismatch};
+use second::comparing::{self, line_difference, Asked, Mismatch};
 use second::load::Answer;
 use second::replay::{self, Event, Outcome};
 use second::scripts::accident::THE_CUSTOMERS_ACCIDENT;
@@ -69,22 +69,12 @@ fn kind_and_byte(event: &Event) -> (i64, u32) {
 fn compare(asked: &Asked, number: usize) -> Result<(&'static str, Outcome), Mismatch> {
     let made = scripts::make(asked.seed, number);
     let mut expected = replay::run(&made.bytes);
-    let found = comparing::output_of(asked, number, &made.bytes);
-    let difference = match found {
-        Err(reason) => Some(format!("the program {reason}")),
-        Ok(found) => comparing::line_difference(expected.output.as_bytes(), &found),
-    };
-    match difference {
-        None => {
-            // Thousands of outcomes are kept for counting; their long outputs need not be.
-            expected.output = String::new();
-            Ok((made.family, expected))
-        }
-        Some(lines) => Err(Mismatch {
-            words: format!("mismatch in script {number}, {}\n{lines}", made.family),
-            input: made.bytes,
-        }),
-    }
+    comparing::demand_same(asked, "script", number, &made, |found| {
+        line_difference(expected.output.as_bytes(), found)
+    })?;
+    // Thousands of outcomes are kept for counting; their long outputs need not be.
+    expected.output = String::new();
+    Ok((made.family, expected))
 }
 
 /// The record awaited, a kind, a byte.
@@ -205,10 +195,7 @@ fn print_tables(tally: &Tally) {
 }
 
 fn main() {
-    let asked = comparing::asked(USAGE, USUAL_SCRIPTS);
-    println!("seed {}", asked.seed);
-    let compared = comparing::on_all_processors(asked.inputs, |number| compare(&asked, number));
-    let outcomes = compared.unwrap_or_else(|mismatch| comparing::fail("compare_replay", &mismatch));
+    let outcomes = comparing::notes_of(USAGE, USUAL_SCRIPTS, compare);
     let mut tally = Tally::default();
     for (family, outcome) in &outcomes {
         tally.add(family, outcome);

@@ -9,6 +9,7 @@ use second::lister;
 use second::orders::shown::{names, shown};
 use second::orders::{self, FAMILIES};
 use second::sender::{self, parts_of, Outcome};
+use second::turns::Made;
 
 const USAGE: &str = "compare_sender PROGRAM [SEED] [SHEETS]";
 const USUAL_SHEETS: usize = 2_500;
@@ -35,17 +36,13 @@ const OUTCOMES: [&str; 11] = [
 fn compare(asked: &Asked, number: usize) -> Result<Note, Mismatch> {
     let made = orders::make(asked.seed, number);
     let expected = sender::run(&made.bytes);
-    let found = comparing::output_of(asked, number, &made.bytes);
-    match fault_of(&made.bytes, &expected, found) {
-        None => Ok(note(&made, &expected)),
-        Some(fault) => Err(Mismatch {
-            words: format!("mismatch in order {number}, {}\n{fault}", made.family),
-            input: made.bytes,
-        }),
-    }
+    comparing::demand_same(asked, "order", number, &made, |found| {
+        fault_of(&made.bytes, &expected, found)
+    })?;
+    Ok(note(&made, &expected))
 }
 
-fn note(made: &orders::Made, expected: &Outcome) -> Note {
+fn note(made: &Made, expected: &Outcome) -> Note {
     let outcome = match expected {
         Outcome::BadInput => "bad input".to_string(),
         Outcome::Refused { kind, .. } => format!("refused {kind}"),
@@ -60,16 +57,12 @@ fn note(made: &orders::Made, expected: &Outcome) -> Note {
 }
 
 /// What is wrong with what the program wrote, in words; None if nothing is.
-fn fault_of(input: &[u8], expected: &Outcome, found: Result<Vec<u8>, String>) -> Option<String> {
-    let found = match found {
-        Err(reason) => return Some(format!("the program {reason}")),
-        Ok(found) => found,
-    };
+fn fault_of(input: &[u8], expected: &Outcome, found: &[u8]) -> Option<String> {
     match expected {
         Outcome::Sent(_) => {
-            block_difference(&expected.output(), &found).or_else(|| cells_lost(input, &found))
+            block_difference(&expected.output(), found).or_else(|| cells_lost(input, found))
         }
-        _ => line_difference(&expected.output(), &found),
+        _ => line_difference(&expected.output(), found),
     }
 }
 
@@ -121,9 +114,6 @@ fn wanted() -> Wanted {
 }
 
 fn main() {
-    let asked = comparing::asked(USAGE, USUAL_SHEETS);
-    println!("seed {}", asked.seed);
-    let compared = comparing::on_all_processors(asked.inputs, |number| compare(&asked, number));
-    let notes = compared.unwrap_or_else(|mismatch| comparing::fail("compare_sender", &mismatch));
+    let notes = comparing::notes_of(USAGE, USUAL_SHEETS, compare);
     comparing::finish(&comparing::tally(&notes, &wanted()));
 }

@@ -3,7 +3,8 @@
 use super::any_head;
 use crate::block::UNIT;
 use crate::dice::Dice;
-use crate::sheets::head::{finest_step, ground_spacing, Head};
+use crate::record_a::{Header, MOST};
+use crate::sheets::head::{finest_step, ground_spacing};
 use crate::texts::Visit;
 
 /// Places of the x and of the y values among the corners: SW, NW, NE, SE.
@@ -17,41 +18,39 @@ pub fn broken_rules(dice: &mut Dice, visit: &mut Visit) {
     for turn in 0..24_000 {
         let mut head = any_head(dice);
         if turn & 1 != 0 {
-            break_an_order(dice, &mut head);
+            break_an_order(dice, &mut head.numbers.corners);
         }
         if turn & 2 != 0 {
-            break_a_count(dice, &mut head);
+            break_a_count(dice, &mut head.numbers);
         }
         if turn & 4 != 0 {
-            head.n = *dice.pick(&[head.columns, head.columns + 1, 2048]);
-            head.n = head.n.min(2048);
+            let n = *dice.pick(&[head.columns, head.columns + 1, MOST]);
+            head.numbers.n = n.min(MOST);
         }
         visit(&head.block(dice));
     }
 }
 
 /// One or more pairs exchanged, or made equal.
-fn break_an_order(dice: &mut Dice, head: &mut Head) {
+fn break_an_order(dice: &mut Dice, corners: &mut [i64; 8]) {
     for _ in 0..dice.size(1, 3) {
         let &(low, high) = dice.pick(&ORDERED);
         if dice.one_in(2) {
-            head.corners.swap(low, high);
+            corners.swap(low, high);
         } else {
-            head.corners[low] = head.corners[high];
+            corners[low] = corners[high];
         }
     }
 }
 
 /// Too many multiples, or none, on one axis or on both.
-fn break_a_count(dice: &mut Dice, head: &mut Head) {
+fn break_a_count(dice: &mut Dice, numbers: &mut Header) {
     let which = dice.size(1, 3);
     if which & 1 != 0 {
-        let spacing = head.spacings[0];
-        break_axis(dice, &mut head.corners, XS, spacing);
+        break_axis(dice, &mut numbers.corners, XS, numbers.x_spacing);
     }
     if which & 2 != 0 {
-        let spacing = head.spacings[1];
-        break_axis(dice, &mut head.corners, YS, spacing);
+        break_axis(dice, &mut numbers.corners, YS, numbers.y_spacing);
     }
 }
 
@@ -73,8 +72,8 @@ fn set_span(corners: &mut [i64; 8], places: [usize; 4], low: i64, high: i64) {
     }
 }
 
-/// Both ends of an axis on a multiple or one step beside it, with 0, 1, 2048 or 2049
-/// multiples between; n is the columns, or one more.
+/// Both ends of an axis on a multiple or one step beside it, with none, one, about 2048 or
+/// some other number of multiples between; n is the columns or a few more or less.
 pub fn edges(dice: &mut Dice, visit: &mut Visit) {
     for _ in 0..40_000 {
         let mut head = any_head(dice);
@@ -85,10 +84,12 @@ pub fn edges(dice: &mut Dice, visit: &mut Visit) {
         let low = beside(dice, first);
         let high = beside(dice, first + steps * spacing);
         let places = if along_x { XS } else { YS };
-        set_span(&mut head.corners, places, low, high);
-        head.spacings[usize::from(!along_x)] = spacing;
+        set_span(&mut head.numbers.corners, places, low, high);
         if along_x {
-            head.n = (steps + dice.between(-1, 2)).clamp(1, 2048);
+            head.numbers.x_spacing = spacing;
+            head.numbers.n = (steps + dice.between(-1, 2)).clamp(1, MOST);
+        } else {
+            head.numbers.y_spacing = spacing;
         }
         visit(&head.block(dice));
     }
@@ -104,13 +105,13 @@ pub fn any_corners(dice: &mut Dice, visit: &mut Visit) {
     for _ in 0..20_000 {
         let mut head = any_head(dice);
         let reach = *dice.pick(&[2, 40, 3_000, 100_000]);
-        for corner in &mut head.corners {
+        for corner in &mut head.numbers.corners {
             *corner = dice.between(-reach, reach) * UNIT + dice.between(-9, 9) * 100_000;
         }
         if dice.one_in(2) {
-            turn_into_order(&mut head.corners);
+            turn_into_order(&mut head.numbers.corners);
         }
-        head.n = dice.between(1, 12);
+        head.numbers.n = dice.between(1, 12);
         visit(&head.block(dice));
     }
 }

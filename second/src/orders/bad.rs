@@ -5,6 +5,7 @@ use super::heights::unfit_cell;
 use super::{ground, templates, whole, Order};
 use crate::block::{put, Record, BLOCK_LENGTH, UNIT, USUAL_CELLS};
 use crate::dice::Dice;
+use crate::record_a::{Header, MOST};
 use crate::sheets::aimed::{replace, spoil_a_real, spoil_a_text};
 use crate::sheets::damage::{damaged, fields_of};
 use crate::sheets::head::Head;
@@ -15,8 +16,8 @@ use crate::sheets::Sent;
 pub fn grid_of_another_length(dice: &mut Dice) -> Order {
     let head = templates::small_head(dice);
     let mut order = sound_order(dice, &head);
-    let need = (head.columns * head.rows) as usize;
-    let step = ground::step(&head);
+    let need = head.cells();
+    let step = head.numbers.step();
     if dice.one_in(3) {
         let more = *dice.pick(&[1, 7, 400, USUAL_CELLS - need]);
         order.cells.truncate(need);
@@ -64,7 +65,7 @@ pub fn damaged_template(dice: &mut Dice) -> Order {
             order.template = damaged(dice, &sent);
         }
     }
-    spoil_a_cell(dice, &mut order, ground::step(&head));
+    spoil_a_cell(dice, &mut order, head.numbers.step());
     if dice.one_in(4) {
         let some = dice.size(0, order.cells.len());
         order.cells.truncate(*dice.pick(&[0, some]));
@@ -76,20 +77,20 @@ pub fn damaged_template(dice: &mut Dice) -> Order {
 fn with_a_broken_rule(dice: &mut Dice, head: &Head) -> Vec<u8> {
     let mut broken = head.clone();
     match dice.size(0, 3) {
-        0 => broken.corners.swap(0, 6),
-        1 => set_xs(&mut broken, UNIT / 4, UNIT / 2),
-        2 => set_xs(&mut broken, 0, 2048 * UNIT),
-        _ => broken.n = broken.columns + dice.between(1, 3),
+        0 => broken.numbers.corners.swap(0, 6),
+        1 => set_xs(&mut broken.numbers, UNIT / 4, UNIT / 2),
+        2 => set_xs(&mut broken.numbers, 0, MOST * UNIT),
+        _ => broken.numbers.n = broken.columns + dice.between(1, 3),
     }
     broken.block(dice)
 }
 
 /// Western and eastern corners, and a spacing of one unit.
-fn set_xs(head: &mut Head, west: i64, east: i64) {
+fn set_xs(numbers: &mut Header, west: i64, east: i64) {
     for (place, x) in [(0, west), (2, west), (4, east), (6, east)] {
-        head.corners[place] = x;
+        numbers.corners[place] = x;
     }
-    head.spacings[0] = UNIT;
+    numbers.x_spacing = UNIT;
 }
 
 /// No cells can follow a template that is cut short.

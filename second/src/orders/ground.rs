@@ -1,17 +1,10 @@
 //! Cells that a sheet can hold, column by column, with voids in every place.
 
-use crate::block::HUNDREDTH;
 use crate::dice::Dice;
 use crate::meaning::VOID_CELL;
+use crate::profile::VOID_POST;
 use crate::sheets::head::Head;
 use crate::sheets::posts;
-
-const VOID_POST: i64 = -32767;
-
-/// Hundredths of a unit in one step of a post.
-pub fn step(head: &Head) -> i64 {
-    head.spacings[2] / HUNDREDTH
-}
 
 /// One sheet's cells, each column by itself.
 pub fn cells(dice: &mut Dice, head: &Head) -> Vec<i32> {
@@ -42,7 +35,7 @@ fn column(dice: &mut Dice, head: &Head) -> Vec<i32> {
 
 /// Ground as posts have it, with the voids that are in it anyway.
 fn solid(dice: &mut Dice, head: &Head) -> Vec<i32> {
-    let step = step(head);
+    let step = head.numbers.step();
     let posts = posts::ground(dice, head.rows).into_iter();
     posts.map(|post| cell(post, step)).collect()
 }
@@ -66,7 +59,7 @@ pub fn cells_of_length(dice: &mut Dice, head: &Head, length: i64) -> Vec<i32> {
         column[..south].fill(VOID_CELL);
         column[north + 1..].fill(VOID_CELL);
         for end in [south, north] {
-            column[end] = (dice.between(-32766, 32767) * step(head)) as i32;
+            column[end] = (dice.between(-32766, 32767) * head.numbers.step()) as i32;
         }
         cells.extend(column);
     }

@@ -10,9 +10,9 @@ const OUTERMOST: [i64; 9] = [-32766, -32765, -32766, -1, 0, 1, 32766, 32767, 327
 /// Outermost heights and voids; every second order has one cell a step too far.
 pub fn at_the_limits(dice: &mut Dice) -> Order {
     let head = templates::small_head(dice);
-    let step = ground::step(&head);
+    let step = head.numbers.step();
     let mut cells = Vec::new();
-    for _ in 0..head.columns * head.rows {
+    for _ in 0..head.cells() {
         let height = (*dice.pick(&OUTERMOST) * step) as i32;
         cells.push(*dice.pick(&[height, height, height, VOID_CELL]));
     }
@@ -28,7 +28,7 @@ pub fn at_the_limits(dice: &mut Dice) -> Order {
 pub fn unfit(dice: &mut Dice) -> Order {
     let head = templates::small_head(dice);
     let mut cells = ground::cells(dice, &head);
-    let step = ground::step(&head);
+    let step = head.numbers.step();
     let last = cells.len() - 1;
     for _ in 0..*dice.pick(&[1, 1, 2, 5]) {
         let any = dice.size(0, last);

@@ -5,6 +5,7 @@ use crate::block::{BLOCK_LENGTH, HUNDREDTH, UNIT, USUAL_CELLS};
 use crate::meaning::VOID_CELL;
 use crate::record_a::{self, Header};
 use crate::sender::{parts_of, Outcome};
+use crate::write::fits;
 
 /// What sheets that were sent show, by name.
 type OfSheets = (&'static str, fn(&SentSheet) -> bool);
@@ -161,7 +162,7 @@ impl SentSheet<'_> {
     }
 
     fn has_height(&self, steps: i64) -> bool {
-        let wanted = steps * step_of(self.header);
+        let wanted = steps * self.header.step();
         self.cells.iter().any(|&cell| i64::from(cell) == wanted)
     }
 
@@ -170,18 +171,9 @@ impl SentSheet<'_> {
     }
 
     fn spares_an_unfit_cell(&self) -> bool {
-        self.spare.iter().any(|&cell| unfit(cell, self.header))
+        let step = self.header.step();
+        self.spare.iter().any(|&cell| !fits(cell, step))
     }
-}
-
-fn step_of(header: &Header) -> i64 {
-    header.z_spacing / HUNDREDTH
-}
-
-fn unfit(cell: i32, header: &Header) -> bool {
-    let (height, step) = (i64::from(cell), step_of(header));
-    let fits = height % step == 0 && (-32766..=32767).contains(&(height / step));
-    cell != VOID_CELL && !fits
 }
 
 /// Past what a post can say even in steps of one unit.
@@ -223,7 +215,7 @@ impl View<'_> {
     /// The first cell is unfit; for any sheet at all if the template is no help.
     fn unfit_start(&self) -> bool {
         match (self.cells.first(), &self.header) {
-            (Some(&cell), Some(header)) => unfit(cell, header),
+            (Some(&cell), Some(header)) => !fits(cell, header.step()),
             (Some(&cell), None) => unfit_for_all(cell),
             (None, _) => false,
         }
@@ -249,7 +241,7 @@ impl View<'_> {
         match *self.outcome {
             Outcome::Refused { kind: 13, number } => {
                 let height = i64::from(self.cells[number as usize]);
-                Some((height, step_of(header)))
+                Some((height, header.step()))
             }
             _ => None,
         }

@@ -4,6 +4,7 @@
 use crate::block::{HUNDREDTH, UNIT};
 use crate::dice::Dice;
 use crate::sheets::head::{self, Head};
+use crate::sheets::shapes::small_size;
 use crate::write;
 
 /// Reals that a template may state as extremes, whatever its sheet is like.
@@ -21,20 +22,15 @@ const EXTREMES: [i64; 8] = [
 pub fn head(dice: &mut Dice, columns: i64, rows: i64) -> Head {
     let mut head = head::head(dice, columns, rows);
     if dice.one_in(2) {
-        head.least = *dice.pick(&EXTREMES);
-        head.greatest = *dice.pick(&EXTREMES);
+        head.numbers.stated_least = *dice.pick(&EXTREMES);
+        head.numbers.stated_greatest = *dice.pick(&EXTREMES);
     }
     head
 }
 
-/// Few columns and rows, at times one only.
 pub fn small_head(dice: &mut Dice) -> Head {
-    let (columns, rows) = (dice.between(1, 9), dice.between(1, 9));
-    match dice.size(0, 7) {
-        0 => head(dice, 1, rows),
-        1 => head(dice, columns, 1),
-        _ => head(dice, columns, rows),
-    }
+    let (columns, rows) = small_size(dice);
+    head(dice, columns, rows)
 }
 
 pub fn block(dice: &mut Dice, head: &Head) -> Vec<u8> {
@@ -48,7 +44,7 @@ pub fn block(dice: &mut Dice, head: &Head) -> Vec<u8> {
 
 /// Block 0 of a sheet of zeros, so that less of it is left to rewrite.
 fn in_the_writers_hand(block: &[u8], head: &Head) -> Vec<u8> {
-    let zeros = vec![0; (head.columns * head.rows) as usize];
+    let zeros = vec![0; head.cells()];
     let blocks = write::sheet_blocks(block, &zeros).expect("a valid header, and zeros");
     blocks[0].to_vec()
 }

@@ -40,12 +40,12 @@ pub fn small(dice: &mut Dice) -> Order {
 /// Nothing filled, one cell filled, or one column of the sheet.
 pub fn of_voids(dice: &mut Dice) -> Order {
     let head = templates::small_head(dice);
-    let mut cells = vec![VOID_CELL; (head.columns * head.rows) as usize];
+    let mut cells = vec![VOID_CELL; head.cells()];
     let ground = ground::cells(dice, &head);
     let any = dice.size(0, cells.len() - 1);
     match dice.size(0, 3) {
         0 => {}
-        1 => cells[any] = ground::step(&head) as i32,
+        1 => cells[any] = head.numbers.step() as i32,
         _ => {
             let rows = head.rows as usize;
             let south = any / rows * rows;

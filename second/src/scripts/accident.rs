@@ -3,6 +3,7 @@
 
 use super::line::Line;
 use crate::dice::Dice;
+use crate::profile::{POSTS_OF_FIRST_BLOCK, POSTS_OF_FURTHER_BLOCK};
 use crate::replay::Script;
 use crate::sheets::{plan_with_length, Plan};
 
@@ -20,7 +21,7 @@ pub fn plan(dice: &mut Dice) -> Plan {
 /// such a sheet have the same number of blocks.
 pub fn sixth_block(plan: &Plan, place: usize) -> usize {
     let posts = plan.runs[place].posts.len();
-    let blocks_of_one = 1 + (posts - 146).div_ceil(170);
+    let blocks_of_one = 1 + (posts - POSTS_OF_FIRST_BLOCK).div_ceil(POSTS_OF_FURTHER_BLOCK);
     1 + place * blocks_of_one + 5
 }
 

@@ -5,15 +5,11 @@ use super::line::Line;
 use crate::dice::Dice;
 use crate::replay::Script;
 use crate::sheets::aimed::misstate;
-use crate::sheets::shapes::{long_plan, small_plan};
+use crate::sheets::shapes::long_or_small_plan;
 use crate::sheets::Plan;
 
 pub fn wrong_extremes(dice: &mut Dice) -> Script {
-    let plan = if dice.one_in(3) {
-        long_plan(dice)
-    } else {
-        small_plan(dice)
-    };
+    let plan = long_or_small_plan(dice, 3);
     let mut line = Line::open(dice, &plan);
     let true_blocks = line.blocks.clone();
     let wrong = misstate(dice, &mut line.blocks);

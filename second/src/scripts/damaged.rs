@@ -6,7 +6,7 @@ use crate::load::{deliver, Answer, Session};
 use crate::replay::Script;
 use crate::sheets::aimed::{damaged_profile_block, replace};
 use crate::sheets::damage::{damaged, fields_of};
-use crate::sheets::shapes::{long_plan, small_plan};
+use crate::sheets::shapes::{long_or_small_plan, small_plan};
 use crate::sheets::{put, Plan};
 
 /// A line whose sender knows what the other end will say. Of the damaged blocks that
@@ -63,11 +63,7 @@ pub fn header(dice: &mut Dice) -> Script {
 /// Before each right block of a profile, that block with some of its fields or posts
 /// replaced, moved or shifted.
 pub fn profiles(dice: &mut Dice) -> Script {
-    let plan = if dice.one_in(3) {
-        long_plan(dice)
-    } else {
-        small_plan(dice)
-    };
+    let plan = long_or_small_plan(dice, 3);
     let mut knowing = KnowingLine::open(dice, &plan);
     knowing.send_right(0);
     for number in 1..knowing.line.blocks.len() {
@@ -86,7 +82,7 @@ pub fn profiles(dice: &mut Dice) -> Script {
 pub fn statistics(dice: &mut Dice) -> Script {
     let mut plan = small_plan(dice);
     let promised = !dice.one_in(6);
-    plan.head.accuracy = 1;
+    plan.head.numbers.accuracy = 1;
     let mut knowing = KnowingLine::open(dice, &plan);
     if !promised {
         put(&mut knowing.line.blocks[0].bytes, 811, b"     0");

@@ -4,6 +4,7 @@ use super::damage::{damaged, fields_of, nudge, post_field, Field};
 use super::{put, Plan, Sent};
 use crate::block::{Record, BLOCK_LENGTH, HUNDREDTH, INTEGER_WIDTH, UNIT};
 use crate::dice::Dice;
+use crate::profile::{POSTS_OF_FIRST_BLOCK, POSTS_OF_FURTHER_BLOCK};
 
 /// A block of a profile with some of its fields or posts replaced, moved or shifted.
 pub fn damaged_profile_block(dice: &mut Dice, plan: &Plan, sent: &Sent) -> Vec<u8> {
@@ -11,7 +12,7 @@ pub fn damaged_profile_block(dice: &mut Dice, plan: &Plan, sent: &Sent) -> Vec<u
     match sent.record {
         Record::ProfileStart => damage_start(dice, plan, &mut block),
         Record::ProfileRest if dice.one_in(2) => {
-            let any = dice.size(0, 169);
+            let any = dice.size(0, POSTS_OF_FURTHER_BLOCK - 1);
             replace(dice, &[post_field(sent.record, any)], &mut block);
         }
         _ => return damaged(dice, sent),
@@ -23,8 +24,8 @@ pub fn damaged_profile_block(dice: &mut Dice, plan: &Plan, sent: &Sent) -> Vec<u
 /// loader that keeps anything of such a block goes wrong with the right one.
 fn damage_start(dice: &mut Dice, plan: &Plan, block: &mut [u8]) {
     let (eastward, northward) = (
-        (25, plan.head.spacings[0], plan.head.columns),
-        (49, plan.head.spacings[1], plan.head.rows),
+        (25, plan.head.numbers.x_spacing, plan.head.columns),
+        (49, plan.head.numbers.y_spacing, plan.head.rows),
     );
     let choice = dice.size(0, 7);
     if choice <= 4 {
@@ -36,7 +37,8 @@ fn damage_start(dice: &mut Dice, plan: &Plan, block: &mut [u8]) {
     match choice {
         1 | 6 => replace(dice, fields_of(Record::ProfileStart), block),
         2 | 7 => {
-            let any = dice.size(0, 145.min(plan.head.rows as usize));
+            let last = (POSTS_OF_FIRST_BLOCK - 1).min(plan.head.rows as usize);
+            let any = dice.size(0, last);
             replace(dice, &[post_field(Record::ProfileStart, any)], block);
         }
         3 => nudge(dice, block, 97, UNIT),

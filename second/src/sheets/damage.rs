@@ -6,6 +6,7 @@ use super::{hand, put, Sent};
 use crate::block::{Record, BLOCK_LENGTH, INTEGER_WIDTH, REAL_WIDTH, SPACING_WIDTH, UNIT};
 use crate::dice::Dice;
 use crate::number;
+use crate::profile::{FIRST_POST, POSTS_OF_FIRST_BLOCK, POSTS_OF_FURTHER_BLOCK};
 
 /// A field and the texts on both sides of its own rule, to stand at its right end.
 #[derive(Clone, Copy)]
@@ -164,7 +165,7 @@ pub const HEADER_FIELDS: [Field; 39] = [
     integer(859, PROFILE_COUNTS),
 ];
 
-pub const PROFILE_FIELDS: [Field; 9] = [
+const PROFILE_FIELDS: [Field; 9] = [
     integer(1, NEAR_ONE),
     integer(7, &["-1", "0", "1", "2", "3", "4", "2048", "2049"]),
     integer(13, POST_COUNTS),
@@ -176,7 +177,7 @@ pub const PROFILE_FIELDS: [Field; 9] = [
     real(121, ELEVATIONS),
 ];
 
-pub const STATISTICS_FIELDS: [Field; 10] = [
+const STATISTICS_FIELDS: [Field; 10] = [
     integer(1, CODES),
     integer(7, ERRORS),
     integer(13, ERRORS),
@@ -312,7 +313,7 @@ pub fn fields_of(record: Record) -> &'static [Field] {
 /// A post that a block of `record` may hold, at place `place` from its first.
 pub fn post_field(record: Record, place: usize) -> Field {
     let first = if record == Record::ProfileStart {
-        145
+        FIRST_POST
     } else {
         1
     };
@@ -349,15 +350,20 @@ fn replace_a_field(dice: &mut Dice, record: Record, block: &mut [u8]) {
 /// Any post, or one of those around the last.
 fn a_post(dice: &mut Dice, record: Record, block: &[u8]) -> Field {
     let most = if record == Record::ProfileStart {
-        146
+        POSTS_OF_FIRST_BLOCK
     } else {
-        170
+        POSTS_OF_FURTHER_BLOCK
     };
-    let last = block.iter().rposition(|&byte| byte != b' ').unwrap_or(0);
+    let last = last_mark(block);
     let count = (last + 1).saturating_sub(post_field(record, 0).first) / INTEGER_WIDTH;
     let near = dice.size(count.saturating_sub(1), count + 1);
     let any = dice.size(0, count);
     post_field(record, (*dice.pick(&[any, any, near])).min(most - 1))
+}
+
+/// Where the last byte that is not blank stands, counted from 0.
+fn last_mark(block: &[u8]) -> usize {
+    block.iter().rposition(|&byte| byte != b' ').unwrap_or(0)
 }
 
 /// Bytes with a meaning in fields, and bytes that no text may hold.
@@ -383,7 +389,7 @@ fn nudge_a_real(dice: &mut Dice, record: Record, block: &mut [u8]) {
     nudge(dice, block, first, by);
 }
 
-/// Adds `by`, or takes it away, if the field reads now and can hold the sum.
+/// Adds `by` to a real, or takes it away; one that does not read counts as zero.
 pub fn nudge(dice: &mut Dice, block: &mut [u8], first: usize, by: i64) {
     let (_, value) = number::real(&block[first - 1..first - 1 + REAL_WIDTH]);
     let moved = if dice.one_in(2) {
@@ -395,9 +401,9 @@ pub fn nudge(dice: &mut Dice, block: &mut [u8], first: usize, by: i64) {
     put(block, first, &text);
 }
 
-/// A byte after the last that is not blank, or the very last byte.
+/// The last byte that is not blank, or any after it, up to the very last.
 fn mark_the_rest(dice: &mut Dice, block: &mut [u8]) {
-    let last = block.iter().rposition(|&byte| byte != b' ').unwrap_or(0);
+    let last = last_mark(block);
     let any = dice.size(last, BLOCK_LENGTH - 1);
     let place = *dice.pick(&[any, (last + 1).min(BLOCK_LENGTH - 1), BLOCK_LENGTH - 1]);
     block[place] = *dice.pick(b"0X\0\t\xA0\n");

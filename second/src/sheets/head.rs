@@ -4,23 +4,14 @@
 use super::{hand, put};
 use crate::block::{BLOCK_LENGTH, HUNDREDTH, REAL_WIDTH, SPACING_WIDTH, UNIT};
 use crate::dice::Dice;
+use crate::record_a::Header;
 
-/// The numbers of a record A and where its lattice lies. Reals are in billionths.
+/// The texts and numbers of a record A, and where its lattice was meant to lie: the numbers
+/// may be made wrong afterwards.
 #[derive(Clone, Debug)]
 pub struct Head {
     pub text: Vec<u8>,
-    pub level: i64,
-    pub system: i64,
-    pub zone: i64,
-    pub ground_unit: i64,
-    pub vertical_unit: i64,
-    /// SW, NW, NE, SE, each x then y.
-    pub corners: [i64; 8],
-    pub least: i64,
-    pub greatest: i64,
-    pub accuracy: i64,
-    pub spacings: [i64; 3],
-    pub n: i64,
+    pub numbers: Header,
     pub later: Vec<u8>,
     pub columns: i64,
     pub rows: i64,
@@ -35,26 +26,27 @@ const SPACINGS: [i64; 8] = [1, 2, 3, 10, 30, 30, 100, 9999];
 pub fn head(dice: &mut Dice, columns: i64, rows: i64) -> Head {
     let system = dice.between(0, 2);
     let vertical_unit = dice.between(1, 2);
-    let spacings = [
-        ground_spacing(dice),
-        ground_spacing(dice),
-        height_spacing(dice, vertical_unit),
-    ];
-    let (west, xs) = axis(dice, columns, spacings[0]);
-    let (south, ys) = axis(dice, rows, spacings[1]);
+    let (x_spacing, y_spacing) = (ground_spacing(dice), ground_spacing(dice));
+    let z_spacing = height_spacing(dice, vertical_unit);
+    let (west, xs) = axis(dice, columns, x_spacing);
+    let (south, ys) = axis(dice, rows, y_spacing);
     Head {
         text: text(dice),
-        level: dice.between(1, 3),
-        system,
-        zone: zone(dice, system),
-        ground_unit: ground_unit(dice, system),
-        vertical_unit,
-        corners: corners(xs, ys),
-        least: dice.between(-5_000_000, 0) * HUNDREDTH,
-        greatest: dice.between(0, 5_000_000) * HUNDREDTH,
-        accuracy: dice.between(0, 1),
-        spacings,
-        n: dice.between(1, columns),
+        numbers: Header {
+            level: dice.between(1, 3),
+            system,
+            zone: zone(dice, system),
+            ground_unit: ground_unit(dice, system),
+            vertical_unit,
+            corners: corners(xs, ys),
+            stated_least: dice.between(-5_000_000, 0) * HUNDREDTH,
+            stated_greatest: dice.between(0, 5_000_000) * HUNDREDTH,
+            accuracy: dice.between(0, 1),
+            x_spacing,
+            y_spacing,
+            z_spacing,
+            n: dice.between(1, columns),
+        },
         later: later(dice),
         columns,
         rows,
@@ -91,7 +83,7 @@ pub fn ground_spacing(dice: &mut Dice) -> i64 {
 }
 
 /// Tenths in feet, hundredths in metres, up to one.
-pub fn height_spacing(dice: &mut Dice, vertical_unit: i64) -> i64 {
+fn height_spacing(dice: &mut Dice, vertical_unit: i64) -> i64 {
     let finest = if vertical_unit == 1 { 10 } else { 1 };
     let steps = 100 / finest;
     let any = dice.between(1, steps);
@@ -221,11 +213,15 @@ const PROJECTION_TEXTS: [&str; 8] = [
 ];
 
 impl Head {
+    pub fn cells(&self) -> usize {
+        (self.columns * self.rows) as usize
+    }
+
     pub fn block(&self, dice: &mut Dice) -> Vec<u8> {
         let mut block = vec![b' '; BLOCK_LENGTH];
         put(&mut block, 1, &self.text);
         put(&mut block, 865, &self.later);
-        for (first, value) in self.integers() {
+        for (first, value) in integers(&self.numbers) {
             put(&mut block, first, &hand::integer(dice, value));
         }
         for place in 0..15 {
@@ -233,39 +229,51 @@ impl Head {
             let field = format!("{text:REAL_WIDTH$}");
             put(&mut block, 169 + place * REAL_WIDTH, field.as_bytes());
         }
-        for (first, value) in self.reals() {
+        for (first, value) in reals(&self.numbers) {
             let field = hand::real(dice, value, REAL_WIDTH);
             put(&mut block, first, &field);
         }
-        for (place, spacing) in self.spacings.into_iter().enumerate() {
+        for (first, spacing) in spacings(&self.numbers) {
             let field = hand::real(dice, spacing, SPACING_WIDTH);
-            put(&mut block, 817 + place * SPACING_WIDTH, &field);
+            put(&mut block, first, &field);
         }
         block
     }
+}
 
-    fn integers(&self) -> [(usize, i64); 10] {
-        [
-            (145, self.level),
-            (151, 1),
-            (157, self.system),
-            (163, self.zone),
-            (529, self.ground_unit),
-            (535, self.vertical_unit),
-            (541, 4),
-            (811, self.accuracy),
-            (853, 1),
-            (859, self.n),
-        ]
-    }
+fn integers(numbers: &Header) -> [(usize, i64); 10] {
+    [
+        (145, numbers.level),
+        (151, 1),
+        (157, numbers.system),
+        (163, numbers.zone),
+        (529, numbers.ground_unit),
+        (535, numbers.vertical_unit),
+        (541, 4),
+        (811, numbers.accuracy),
+        (853, 1),
+        (859, numbers.n),
+    ]
+}
 
-    /// The corners, the extremes and the angle, which is zero.
-    fn reals(&self) -> Vec<(usize, i64)> {
-        let corners = self.corners.into_iter().enumerate();
-        let mut all: Vec<(usize, i64)> = corners
-            .map(|(place, value)| (547 + place * REAL_WIDTH, value))
-            .collect();
-        all.extend([(739, self.least), (763, self.greatest), (787, 0)]);
-        all
-    }
+/// The corners, the extremes and the angle, which is zero.
+fn reals(numbers: &Header) -> Vec<(usize, i64)> {
+    let corners = numbers.corners.into_iter().enumerate();
+    let mut all: Vec<(usize, i64)> = corners
+        .map(|(place, value)| (547 + place * REAL_WIDTH, value))
+        .collect();
+    all.extend([
+        (739, numbers.stated_least),
+        (763, numbers.stated_greatest),
+        (787, 0),
+    ]);
+    all
+}
+
+fn spacings(numbers: &Header) -> [(usize, i64); 3] {
+    [
+        (817, numbers.x_spacing),
+        (829, numbers.y_spacing),
+        (841, numbers.z_spacing),
+    ]
 }

@@ -3,10 +3,10 @@
 use super::{hand, put};
 use crate::block::INTEGER_WIDTH;
 use crate::dice::Dice;
+use crate::profile::VOID_POST;
 
 /// Lengths at which a profile's blocks come out just full, and the ones beside them.
 pub const LENGTHS: [i64; 9] = [1, 146, 147, 316, 317, 486, 487, 1201, 2048];
-const VOID: i64 = -32767;
 
 /// The posts of one profile; the datum is in hundredths.
 #[derive(Clone, Debug)]
@@ -18,11 +18,9 @@ pub struct Run {
 
 impl Run {
     /// Elevations of the posts that are not void, in hundredths.
-    pub fn filled(&self, z_hundredths: i64) -> Vec<i64> {
-        let filled = self.posts.iter().filter(|&&post| post != VOID);
-        filled
-            .map(|post| post * z_hundredths + self.datum)
-            .collect()
+    pub fn filled(&self, step: i64) -> Vec<i64> {
+        let filled = self.posts.iter().filter(|&&post| post != VOID_POST);
+        filled.map(|post| post * step + self.datum).collect()
     }
 }
 
@@ -62,7 +60,7 @@ pub fn ground(dice: &mut Dice, length: i64) -> Vec<i64> {
     let outermost = dice.one_in(8);
     let post = |dice: &mut Dice| {
         if dice.between(1, 100) <= voids {
-            VOID
+            VOID_POST
         } else if outermost {
             *dice.pick(&[-32766, 32767, -32766, 32767, 0, -1, 1])
         } else {

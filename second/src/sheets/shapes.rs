@@ -5,17 +5,32 @@ use super::{plan, plan_with_length, Plan};
 use crate::block::USUAL_CELLS;
 use crate::dice::Dice;
 
-/// Few cells, at times in one row or one column only.
-pub fn small_plan(dice: &mut Dice) -> Plan {
+/// Few columns and few rows, at times one only.
+pub fn small_size(dice: &mut Dice) -> (i64, i64) {
     let (columns, rows) = (dice.between(1, 9), dice.between(1, 9));
     match dice.size(0, 7) {
-        0 => plan(dice, 1, rows),
-        1 => plan(dice, columns, 1),
-        _ => plan(dice, columns, rows),
+        0 => (1, rows),
+        1 => (columns, 1),
+        _ => (columns, rows),
     }
 }
 
-/// Profiles that take two to thirteen blocks, as many columns as a grid leaves room for.
+pub fn small_plan(dice: &mut Dice) -> Plan {
+    let (columns, rows) = small_size(dice);
+    plan(dice, columns, rows)
+}
+
+/// Long profiles one time in `times`, else a small sheet.
+pub fn long_or_small_plan(dice: &mut Dice, times: i64) -> Plan {
+    if dice.one_in(times) {
+        long_plan(dice)
+    } else {
+        small_plan(dice)
+    }
+}
+
+/// Most often profiles at the lengths where a block is just full, of one to thirteen blocks;
+/// up to seven columns, if a grid leaves room for them.
 pub fn long_plan(dice: &mut Dice) -> Plan {
     let length = *dice.pick(&LENGTHS[1..]);
     let above = *dice.pick(&[0, 0, 1, 40]);
@@ -40,9 +55,10 @@ pub fn wide_plan(dice: &mut Dice) -> Plan {
 
 /// The same sheet with thirty profiles at most.
 pub fn with_few_profiles(dice: &mut Dice, mut plan: Plan) -> Plan {
-    plan.head.n = plan.head.n.min(dice.between(1, 30));
-    plan.runs.truncate(plan.head.n as usize);
-    let room = plan.head.columns - plan.head.n;
+    let n = plan.head.numbers.n.min(dice.between(1, 30));
+    plan.head.numbers.n = n;
+    plan.runs.truncate(n as usize);
+    let room = plan.head.columns - n;
     plan.first_column = *dice.pick(&[0, room / 2, room]);
     plan
 }

@@ -60,7 +60,7 @@ fn a_profile_block(dice: &mut Dice, blocks: &[Sent]) -> usize {
 /// A record C with a wrong field, one too few, or one that block 0 did not promise.
 pub fn statistics(dice: &mut Dice, _cells: usize) -> Vec<u8> {
     let mut plan = small_plan(dice);
-    plan.head.accuracy = 1;
+    plan.head.numbers.accuracy = 1;
     let mut blocks = plan.blocks(dice);
     let last = blocks.len() - 1;
     match dice.size(0, 12) {

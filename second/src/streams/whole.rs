@@ -1,18 +1,15 @@
 //! Whole sheets of every shape, and sheets about as large as the cells lent.
 
 use super::{joined, sent_on, stream_of};
-use crate::block::HUNDREDTH;
 use crate::dice::Dice;
 use crate::orders;
 use crate::paper;
+use crate::record_a::MOST;
 use crate::sender::{self, Outcome};
 use crate::sheets::aimed::spoil_a_text;
 use crate::sheets::damage::damaged;
 use crate::sheets::shapes::{long_plan, small_plan, wide_plan, with_few_profiles};
 use crate::sheets::{plan, put, Plan};
-
-/// Most columns and most rows of a sheet.
-const MOST: i64 = 2048;
 
 pub fn small(dice: &mut Dice, _cells: usize) -> Vec<u8> {
     let plan = small_plan(dice);
@@ -22,7 +19,7 @@ pub fn small(dice: &mut Dice, _cells: usize) -> Vec<u8> {
 /// Heights within two units of zero, where a minus stands before a whole part of 0.
 pub fn low_ground(dice: &mut Dice, _cells: usize) -> Vec<u8> {
     let mut plan = small_plan(dice);
-    let step = plan.head.spacings[2] / HUNDREDTH;
+    let step = plan.head.numbers.step();
     let (low, high) = *dice.pick(&[(-150, 150), (-99, -1), (1, 99), (-9, 9)]);
     for run in &mut plan.runs {
         run.datum = dice.between(low, high);
@@ -53,7 +50,7 @@ pub fn wide(dice: &mut Dice, _cells: usize) -> Vec<u8> {
 fn every_profile(dice: &mut Dice, columns: i64, rows: i64) -> Plan {
     loop {
         let plan = plan(dice, columns, rows);
-        if plan.head.n == columns {
+        if plan.head.numbers.n == columns {
             return plan;
         }
     }

@@ -1,10 +1,8 @@
 //! Valid spellings of integers and reals. A spelling of a real may still be out of the
 //! limits of its value; that is for the readings to say.
 
+use crate::block::{INTEGER_WIDTH, REAL_WIDTH};
 use crate::dice::Dice;
-
-const INTEGER_WIDTH: usize = 6;
-const REAL_WIDTH: usize = 24;
 
 /// Blanks, perhaps a sign, then digits to the end.
 pub fn integer(dice: &mut Dice) -> Vec<u8> {

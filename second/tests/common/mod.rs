@@ -1,9 +1,30 @@
-//! The sheet of document 01, "The lister, and one sheet", typed out field by field.
+//! What the tests share: the sheet of document 01, "The lister, and one sheet", typed out
+//! field by field, sessions that have taken blocks, and how families of inputs are tested.
 
 #![allow(dead_code)]
 
+use second::load::{deliver, Answer, Session};
+use second::meaning::Figures;
+use second::turns::{Family, Made, ALL_SHARES};
+use std::collections::BTreeSet;
+use std::fmt::Debug;
+
 pub const VOID: i32 = i32::MIN;
 pub const PAPER_CELLS: [i32; 6] = [1000, VOID, 1200, VOID, 1100, 900];
+
+/// Posts of a profile, and the blocks it then takes: 146 posts in the first and 170 in each
+/// further one.
+pub const PROFILES: [(usize, usize); 9] = [
+    (1, 1),
+    (146, 1),
+    (147, 2),
+    (316, 2),
+    (317, 3),
+    (486, 3),
+    (487, 4),
+    (1201, 8),
+    (2048, 13),
+];
 
 pub fn put(block: &mut [u8], first: usize, text: &str) {
     block[first - 1..first - 1 + text.len()].copy_from_slice(text.as_bytes());
@@ -81,4 +102,49 @@ pub fn statistics(numbers: [i64; 10]) -> Vec<u8> {
         put(&mut block, 1 + place * 6, &format!("{number:6}"));
     }
     block
+}
+
+/// A fresh session that has taken these blocks, and its grid of `room` sevens.
+pub fn after(blocks: &[impl AsRef<[u8]>], room: usize) -> (Session, Vec<i32>) {
+    let (mut session, mut grid) = (Session::fresh(), vec![7; room]);
+    for (number, block) in blocks.iter().enumerate() {
+        let answer = deliver(&mut session, number as u32, block.as_ref(), &mut grid);
+        assert_eq!(answer, Answer::Taken, "block {number}");
+    }
+    (session, grid)
+}
+
+/// The cells and counts that the paper gives for its sheet; no cell past it is touched.
+pub fn demand_the_papers_sheet(blocks: &[Vec<u8>]) {
+    let (session, grid) = after(blocks, 8);
+    assert_eq!(grid[..6], PAPER_CELLS);
+    assert_eq!(grid[6..], [7, 7]);
+    let figures = Figures {
+        closed: 2,
+        posts: 5,
+        filled: 4,
+        least: 900,
+        greatest: 1200,
+    };
+    assert_eq!(session.figures(), figures);
+    assert_eq!(session.taken(), 3);
+    assert!(session.sheet().expect("taken").complete());
+}
+
+/// One input for each share: made again it is the same, and no family is left out.
+pub fn demand_the_same_again<Maker>(families: &[Family<Maker>], make: impl Fn(usize) -> Made) {
+    let mut met = BTreeSet::new();
+    for number in 0..ALL_SHARES {
+        let made = make(number);
+        assert!(made.bytes == make(number).bytes);
+        met.insert(made.family);
+    }
+    assert_eq!(met.len(), families.len());
+    let shares: usize = families.iter().map(|family| family.share).sum();
+    assert_eq!(shares, ALL_SHARES);
+}
+
+pub fn demand_all_seen<Name: Ord + Debug>(names: Vec<Name>, seen: &BTreeSet<Name>) {
+    let missing: Vec<_> = names.iter().filter(|name| !seen.contains(name)).collect();
+    assert!(missing.is_empty(), "{missing:?}");
 }
