@@ -1,6 +1,6 @@
 -- What an origin's number says: k + 1 exactly where bytes 141 to 144 are the k-th code, 0 exactly where they are none of the six. A text's place in any list carries it, with one computed test: each code has its own place.
 use mathlib.Core.Bool.{Bool, true, false}
-use mathlib.Core.List.{List, [], _∷_, map}
+use mathlib.Core.List.{List, [], _∷_}
 use mathlib.Core.Logic.{_↔_, _⊎_, inl, inr}
 use mathlib.Core.Path.{_≡_, refl, sym, _∙_}
 use Prim.Native.Nat.{ℕ, suc, _+_, _<_}
@@ -32,7 +32,7 @@ find n t (o ∷ os) = go (same t o) refl (find (suc n) t os)
 
 own-place : (k : ℕ) → k < 6 → placeIn 1 (getD origins k []) origins ≡ k + 1
 own-place k h =
-    sym (List·getD-map (λ o. placeIn 1 o origins) origins k []) ∙ entry (λ i. i + 1) (map (λ o. placeIn 1 o origins) origins) tt k h
+    sym (List·getD-map (λ o. placeIn 1 o origins) origins k []) ∙ entry (λ i. i + 1) 6 k h
 
 module _ (t : List ℕ) where
   place-is : (k : ℕ) → k < 6 → (placeIn 1 t origins ≡ k + 1) ↔ (t ≡ getD origins k [])

@@ -10,6 +10,7 @@ use lib.IntN.{ℤ, pos, negsuc, negℤ, natAbs, subℕ, _+ℤ_, _-ℤ_, _*ℤ_, 
 use lib.Signed.{_≤ℤ_}
 use mir.Syntax.{Width}
 use mir.Val.{SFits, hbits}
+use Rattle.laws.specs.Sign.{signed}
 
 abbrev pub above : ℤ → ℕ
 above (pos n) = n
@@ -100,6 +101,10 @@ size-sum a b = omega (arith, sum-parts a b, parts (a +ℤ b), parts a, parts b)
 
 pub size-minus : (z : ℤ) → natAbs (negℤ z) ≡ natAbs z
 size-minus z = omega (arith, minus-parts z, parts (negℤ z), parts z)
+
+pub signed-size : (minus : Bool) (n : ℕ) → natAbs (signed minus n) ≡ n
+signed-size true n = size-minus (pos n)
+signed-size false n = refl
 
 pub size-multiple : (k : ℤ) (s : ℕ) → natAbs (k *ℤ pos s) ≡ natAbs k * s
 size-multiple (pos k) s = refl

@@ -2,21 +2,11 @@
 use mathlib.Core.Bool.{Bool, true, false, cond}
 use mathlib.Core.Path.{_≡_, refl, sym, _∙_, ap, subst}
 use Prim.Native.Nat.{ℕ, zero, suc, _+_, _*_, _-_, _/_, _%_, _^_, _≤_, _<_}
-use native.Mathlib.Nat.{
-  div-add-mod',
-  div-lt-iff-lt-mul,
-  mul-mod-left,
-  mul-assoc,
-  mul-comm,
-  mul-lt-mul-of-pos-right,
-  pow-suc,
-  zero-mod,
-  le-trans,
-}
+use native.Mathlib.Nat.{div-add-mod', div-lt-iff-lt-mul, mul-mod-left, mul-assoc, mul-lt-mul-of-pos-right, zero-mod}
 use native.Mathlib.Decide.{decLe}
 use native.Mathlib.Omega.{arith}
 use borrow.Author.Tests.{ltb-true, ltb-false, eqb-true, eq-eqb}
-use lib.Dec.{ltb, eqb}
+use lib.Dec.{ltb}
 use lib.Pow.{pow-add}
 use Rattle.laws.specs.Digits.{places, short}
 use Rattle.laws.proofs.Tens.{ten-pos, ten-up}

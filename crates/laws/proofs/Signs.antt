@@ -25,6 +25,10 @@ negated n h = ap (λ (z : ℤ). pos 0 -ℤ z) (toZ-pos w64 h) ∙ +ℤ-idl (neg�
 pub negated-fits : (n : ℕ) → n < 2 ^ 63 → SFits w64 (pos 0 -ℤ toZ w64 n)
 negated-fits n h = record { sfits = subst⁻¹ (λ (z : ℤ). mag z < 2 ^ 63) (negated n h) (omega (arith, mag-signed n)) }
 
+-- a number read back from the bits that carry it
+pub back : (z : ℤ) → mag z < 2 ^ 63 → toZ w64 (ofZ w64 z) ≡ z
+back z h = toZ-ofZ (record { sfits = h })
+
 -- what a call gave for a number, both read back
 pub read-back : {w : Width} (f : ℤ → ℤ) {v r : ℤ} → SFits w v → SFits w r → r ≡ f (toZ w (ofZ w v)) → toZ w (ofZ w r) ≡ f v
 read-back f p q e = toZ-ofZ q ∙ e ∙ ap f (toZ-ofZ p)

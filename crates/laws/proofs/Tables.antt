@@ -1,10 +1,10 @@
--- A table's rule, proved at all of its entries by one test that is computed over the whole table.
+-- A table's rule, proved at all of its entries by computing the whole table once.
 use mathlib.Core.Bool.{Bool, true, false}
 use mathlib.Core.List.{List, [], _∷_}
-use mathlib.Core.Path.{_≡_, refl, sym, _∙_, subst}
+use mathlib.Core.Path.{_≡_, sym, _∙_}
 use Prim.Native.Nat.{ℕ, zero, suc, _+_, _<_}
 use native.Mathlib.Nat.{add-zero, zero-add, add-suc, suc-add, le-of-suc-le-suc, not-suc-le-zero}
-use lib.Dec.{T, eqb, eqb→eq}
+use lib.Dec.{T}
 use lib.ListN.{length, getD}
 use Rattle.laws.specs.Sign.{_and_}
 
@@ -16,19 +16,18 @@ pub and-right : (a b : Bool) → T (a and b) → T b
 and-right true b t = t
 and-right false b t = absurd t
 
--- each entry is what the rule gives at its place, counted from i
-abbrev pub follows : (ℕ → ℕ) → ℕ → List ℕ → Bool
-follows f i [] = true
-follows f i (x ∷ xs) = eqb x (f i) and follows f (suc i) xs
+-- the table of a rule: what it gives from i on, n times
+abbrev pub table : (ℕ → ℕ) → ℕ → ℕ → List ℕ
+table f i zero = []
+table f i (suc n) = f i ∷ table f (suc i) n
 
-from : (f : ℕ → ℕ) (xs : List ℕ) (i : ℕ) → T (follows f i xs) → (k : ℕ) → k < length xs → getD xs k 0 ≡ f (i + k)
-from f [] i t k h = absurd (not-suc-le-zero h)
-from f (x ∷ xs) i t zero h = eqb→eq x (f i) (and-left (eqb x (f i)) _ t) ∙ sym (rw (add-zero i))
-from f (x ∷ xs) i t (suc k) h =
-    from f xs (suc i) (and-right (eqb x (f i)) _ t) k (le-of-suc-le-suc h) ∙ rw (suc-add i k, add-suc i k)
+from : (f : ℕ → ℕ) (i n k : ℕ) → k < n → getD (table f i n) k 0 ≡ f (i + k)
+from f i zero k h = absurd (not-suc-le-zero h)
+from f i (suc n) zero h = sym (rw (add-zero i))
+from f i (suc n) (suc k) h = from f (suc i) n k (le-of-suc-le-suc h) ∙ rw (suc-add i k, add-suc i k)
 
-pub entry : (f : ℕ → ℕ) (xs : List ℕ) → T (follows f 0 xs) → (k : ℕ) → k < length xs → getD xs k 0 ≡ f k
-entry f xs t k h = from f xs 0 t k h ∙ rw (zero-add k)
+pub entry : (f : ℕ → ℕ) (n k : ℕ) → k < n → getD (table f 0 n) k 0 ≡ f k
+entry f n k h = from f 0 n k h ∙ rw (zero-add k)
 
 -- a test of every entry
 abbrev pub all {ℓ} : {A : Type ℓ} → (A → Bool) → List A → Bool

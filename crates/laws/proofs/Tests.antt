@@ -1,11 +1,16 @@
--- Tests that compute: the two answers differ, and what a joined test says of its parts.
-use mathlib.Core.Bool.{Bool, true, false, true≢false}
+-- Tests that compute: the two answers differ, what holds of both, and what a joined test says of its parts.
+use mathlib.Core.Bool.{Bool, true, false, cond, true≢false}
 use mathlib.Core.Path.{_≡_, refl, sym}
 use Rattle.laws.specs.Sign.{_and_}
 
 -- a test that is both passed and failed proves anything
 pub clash {ℓ} : {X : Type ℓ} → true ≡ false → X
 clash p = absurd (true≢false p)
+
+-- what holds of both answers of a test holds of its answer
+pub either {ℓ ℓ′} : {X : Type ℓ} (P : X → Type ℓ′) (t : Bool) {x y : X} → P x → P y → P (cond t x y)
+either P true p q = p
+either P false p q = q
 
 pub and-first : (a b : Bool) → (a and b) ≡ true → a ≡ true
 and-first true b t = refl

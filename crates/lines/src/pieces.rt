@@ -1,5 +1,4 @@
 // The pieces of a line, put into a scratch text one after another, and the whole text given to lent bytes.
-use sheet::lattice;
 ghost use mathlib.Core.List.{[], _∷_, _++_};
 ghost use Prim.Native.Nat.{_+_, _≤_, _<_};
 ghost use lib.ListN.{length};
@@ -101,7 +100,7 @@ pub(crate) fn put_height(text: &mut [u8], at: usize, word: &[u8], z: i64) -> usi
 {
     let sign = put_word(text, at, word);
     let first = put_minus(text, sign, z);
-    put_hundredths(text, first, lattice::size_of(z))
+    put_hundredths(text, first, number::size_of(z))
 }
 
 // The text at the front of the lent bytes, where it fits; else they stay as they are.

@@ -1,14 +1,11 @@
 -- What a delivery answers and leaves in the grid, one law for each way through the code.
-use mathlib.Core.Bool.{true, false}
 use mathlib.Core.List.{List, _++_}
-use mathlib.Core.Path.{_≡_, refl, sym, _∙_, ap, subst}
+use mathlib.Core.Path.{_≡_, refl, sym, _∙_, ap}
 use Prim.Native.Nat.{ℕ, _+_, _≤_, _<_}
-use native.Mathlib.Omega.{arith}
 use borrow.Author.Tests.{lt-ltb, le-ltb}
 use lib.IntN.{ℤ}
 use lib.ListN.{length, drop, replicate, take}
 use lib.Seq.{sets}
-use Rattle.sheet.specs.RecordA.{recordA}
 use Rattle.sheet.specs.declared.record_a.Checked.{Checked}
 use Rattle.sheet.specs.declared.record_a.Checked.the-variants.{Sheet, Refused as NoSheet}
 use Rattle.sheet.specs.declared.record_a.Header.{Header}
@@ -16,7 +13,6 @@ use Rattle.session.specs.declared.Session.{Session}
 use Rattle.load.specs.Posts.{void}
 use Rattle.load.specs.Deliver.{Verdict, wrong, begins, fills, begun, beginning, cellsOf, cellsBy, answerOf, verdictOf, deliverOf, cellsAfter}
 use Rattle.load.specs.Steps.{Meets, Stepped, gateOf, stepVerdict}
-use Rattle.load.specs.declared.Answer.{Answer}
 use Rattle.load.specs.declared.Answer.the-variants.{Taken, Refused}
 use Rattle.load.specs.declared.Delivered.{Delivered}
 use Rattle.load.specs.declared.steps.Gate.{Gate}

@@ -1,20 +1,19 @@
 -- A block scanned whole, by what its posts and the rest of it gave.
-use mathlib.Core.Bool.{Bool, true, false, cond}
+use mathlib.Core.Bool.{true, false}
 use mathlib.Core.List.{List}
-use mathlib.Core.Path.{_≡_, refl, sym, _∙_, ap}
+use mathlib.Core.Path.{_≡_, sym, _∙_, ap}
 use Prim.Native.Nat.{ℕ, _+_, _*_, _-_, _≤_}
 use native.Mathlib.Omega.{arith}
 use borrow.Author.Tests.{eq-eqb, ne-eqb}
 use lib.Dec.{eqb}
 use lib.IntN.{ℤ}
-use lib.ListN.{length, drop}
+use lib.ListN.{drop}
 use Rattle.number.specs.Bytes.{isBlank}
 use Rattle.number.specs.Grammar.{every}
 use Rattle.sheet.specs.RecordA.{fault}
 use Rattle.sheet.specs.declared.record_a.Fault.{Fault}
-use Rattle.load.specs.Posts.{postsFault, noTally, restFault}
-use Rattle.load.specs.Scan.{Scanned, Asked}
-use Rattle.load.specs.Deliver.{blockFault}
+use Rattle.load.specs.Posts.{postsFault, noTally}
+use Rattle.load.specs.Scan.{Scanned}
 use Rattle.load.specs.Steps.{BlockScanned}
 use Rattle.load.specs.declared.posts.Scan.{Scan}
 

@@ -1,12 +1,12 @@
 -- A good block's step is the definition's verdict, and its cells are cells of the sheet.
 use mathlib.Core.Bool.{Bool, true, false, cond}
 use mathlib.Core.List.{List}
-use mathlib.Core.Path.{_≡_, refl, sym, _∙_, ap, subst}
-use Prim.Native.Nat.{ℕ, suc, _+_, _*_, _-_, _≤_, _<_}
+use mathlib.Core.Path.{_≡_, refl, sym, _∙_}
+use Prim.Native.Nat.{ℕ, _+_, _*_, _-_, _≤_}
 use native.Mathlib.Nat.{mul-le-mul-right, add-mul}
 use native.Mathlib.Omega.{arith}
 use lib.Dec.{ltb, eqb}
-use lib.IntN.{ℤ, natAbs}
+use lib.IntN.{ℤ}
 use lib.ListN.{length, take}
 use Rattle.sheet.specs.RecordA.{columnsOf, rowsOf}
 use Rattle.session.specs.Session.{openBlocks}
@@ -28,7 +28,6 @@ use Rattle.load.specs.Deliver.{
 }
 use Rattle.load.specs.Steps.{filledWith, fillStep, closeStep, stepVerdict, Placing}
 use Rattle.load.specs.declared.posts.Tally.{Tally}
-use Rattle.load.specs.declared.steps.Step.{Step}
 use Rattle.load.specs.declared.steps.Step.the-variants.{Wrong, Fills}
 use Rattle.load.proofs.MergedTallies.{tally-merged}
 

@@ -1,10 +1,10 @@
 -- The first tests of a delivery: what each answer of theirs means for the verdict, and what is known past all of them.
-use mathlib.Core.Bool.{Bool, true, false, cond, not}
+use mathlib.Core.Bool.{Bool, true, false}
 use mathlib.Core.List.{List}
-use mathlib.Core.Path.{_≡_, refl, sym, _∙_, ap}
-use Prim.Native.Nat.{ℕ, _≤_, _<_}
+use mathlib.Core.Path.{_≡_, refl}
+use Prim.Native.Nat.{ℕ}
 use native.Mathlib.Omega.{arith}
-use borrow.Author.Tests.{eqb-true, eqb-false, ltb-true, ltb-false}
+use borrow.Author.Tests.{eqb-true, eqb-false, ltb-false}
 use lib.Dec.{eqb, ltb}
 use lib.IntN.{ℤ}
 use lib.ListN.{length}
@@ -12,7 +12,7 @@ use Rattle.sheet.specs.RecordA.{recordA}
 use Rattle.session.specs.Session.{sound}
 use Rattle.session.specs.declared.Session.{Session}
 use Rattle.load.specs.Deliver.{Verdict, again, wrong, beginning, later, complete, cellsOf, verdictOf}
-use Rattle.load.specs.Steps.{gateOf, Due, Ready}
+use Rattle.load.specs.Steps.{gateOf, Due}
 use Rattle.load.specs.declared.steps.Gate.{Gate}
 use Rattle.load.specs.declared.steps.Gate.the-variants.{Stop, Again, Begin, Later}
 use Rattle.load.proofs.Readiness.{ready-of}

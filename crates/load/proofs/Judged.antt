@@ -1,13 +1,13 @@
 -- A block of a profile judged: a fault is its refusal, and without one its step is the definition's verdict.
-use mathlib.Core.Bool.{Bool, true, false, cond}
+use mathlib.Core.Bool.{Bool, true, false}
 use mathlib.Core.List.{List, []}
 use mathlib.Core.Path.{_≡_, refl, sym, _∙_, ap, subst⁻¹}
-use Prim.Native.Nat.{ℕ, _+_, _*_, _-_, _≤_, _<_}
+use Prim.Native.Nat.{ℕ, _+_, _-_, _≤_, _<_}
 use native.Mathlib.Omega.{arith}
 use borrow.Author.Tests.{eq-eqb, ne-eqb}
 use lib.Dec.{eqb}
 use lib.IntN.{ℤ, natAbs}
-use lib.ListN.{length, take}
+use lib.ListN.{length}
 use Rattle.sheet.specs.RecordA.{fault}
 use Rattle.sheet.specs.declared.record_a.Fault.{Fault}
 use Rattle.profile.specs.RecordC.{recordC}

@@ -1,14 +1,14 @@
 -- Tallies merged: their extremes stay within bounds, and a block's own tally merged is the tally of all heights.
 use mathlib.Core.Bool.{Bool, true, false, cond}
-use mathlib.Core.List.{List, [], _∷_}
-use mathlib.Core.Path.{_≡_, refl, sym, _∙_, ap}
-use Prim.Native.Nat.{ℕ, _+_, _*_, _-_, _≤_, _<_}
+use mathlib.Core.Path.{_≡_, sym, _∙_, ap}
+use Prim.Native.Nat.{ℕ, _-_, _≤_, _<_}
 use native.Mathlib.Omega.{arith}
-use borrow.Author.Tests.{eqb-true, eqb-false, eq-eqb, ne-eqb}
+use borrow.Author.Tests.{eqb-false, eq-eqb, ne-eqb}
 use lib.Dec.{eqb}
 use lib.IntN.{ℤ, natAbs}
 use lib.Signed.{ltZ}
-use Rattle.sheet.specs.RecordA.{lesser, greater}
+use Rattle.laws.proofs.Tests.{either}
+use Rattle.number.proofs.GrammarParts.{by-test}
 use Rattle.session.specs.declared.Profile.{Profile}
 use Rattle.session.specs.declared.Session.{Session}
 use Rattle.session.specs.Session.{openBlocks}
@@ -18,41 +18,27 @@ use Rattle.load.specs.declared.steps.Refusal.{Refusal}
 use Rattle.load.specs.declared.steps.Step.the-variants.{Wrong, Fills}
 use Rattle.load.specs.declared.posts.Tally.{Tally}
 
--- one of two numbers is no larger than both
-pub picked-size : (b : Bool) (x y : ℤ) (most : ℕ) → natAbs x ≤ most → natAbs y ≤ most → natAbs (cond b x y) ≤ most
-picked-size true x y most h k = h
-picked-size false x y most h k = k
+above-none : (n : ℕ) → eqb n 0 ≡ false → 0 < n
+above-none n e = let q = eqb-false n 0 e in omega arith
 
 module _ (t u : Tally) (most : ℕ) where
+  -- the extreme x of n heights beside a further one y: whichever is kept is no larger than both
+  kept-size : (n : ℕ) (x y : ℤ) (b : Bool) → (0 < n → natAbs x ≤ most) → natAbs y ≤ most
+      → natAbs (cond (eqb n 0) y (cond b y x)) ≤ most
+  kept-size n x y b h k =
+      by-test (eqb n 0) (λ e. rw e k) (λ e. rw e (either (λ (z : ℤ). natAbs z ≤ most) b k (h (above-none n e))))
+
   pub merged-low : (0 < t .filled → natAbs (t .low) ≤ most) → (0 < u .filled → natAbs (u .low) ≤ most)
       → 0 < merged t u .filled → natAbs (merged t u .low) ≤ most
-  merged-low h k = go (eqb (u .filled) 0) refl (eqb (t .filled) 0) refl
-    where
-      go : (b : Bool) → eqb (u .filled) 0 ≡ b → (c : Bool) → eqb (t .filled) 0 ≡ c → 0 < merged t u .filled
-          → natAbs (merged t u .low) ≤ most
-      go true e c f p = rw e (h (rw e at p))
-      go false e true f p =
-          let q : u .filled ≡ 0 → ⊥ = eqb-false (u .filled) 0 e in
-          rw (e, f) (k (omega arith))
-      go false e false f p =
-          let q : t .filled ≡ 0 → ⊥ = eqb-false (t .filled) 0 f in
-          let o : u .filled ≡ 0 → ⊥ = eqb-false (u .filled) 0 e in
-          rw (e, f) (picked-size (ltZ (u .low) (t .low)) (u .low) (t .low) most (k (omega arith)) (h (omega arith)))
+  merged-low h k =
+      by-test (eqb (u .filled) 0) (λ e p. rw e (h (rw e at p)))
+      (λ e p. rw e (kept-size (t .filled) (t .low) (u .low) (ltZ (u .low) (t .low)) h (k (above-none (u .filled) e))))
 
   pub merged-high : (0 < t .filled → natAbs (t .high) ≤ most) → (0 < u .filled → natAbs (u .high) ≤ most)
       → 0 < merged t u .filled → natAbs (merged t u .high) ≤ most
-  merged-high h k = go (eqb (u .filled) 0) refl (eqb (t .filled) 0) refl
-    where
-      go : (b : Bool) → eqb (u .filled) 0 ≡ b → (c : Bool) → eqb (t .filled) 0 ≡ c → 0 < merged t u .filled
-          → natAbs (merged t u .high) ≤ most
-      go true e c f p = rw e (h (rw e at p))
-      go false e true f p =
-          let q : u .filled ≡ 0 → ⊥ = eqb-false (u .filled) 0 e in
-          rw (e, f) (k (omega arith))
-      go false e false f p =
-          let q : t .filled ≡ 0 → ⊥ = eqb-false (t .filled) 0 f in
-          let o : u .filled ≡ 0 → ⊥ = eqb-false (u .filled) 0 e in
-          rw (e, f) (picked-size (ltZ (t .high) (u .high)) (u .high) (t .high) most (k (omega arith)) (h (omega arith)))
+  merged-high h k =
+      by-test (eqb (u .filled) 0) (λ e p. rw e (h (rw e at p)))
+      (λ e p. rw e (kept-size (t .filled) (t .high) (u .high) (ltZ (t .high) (u .high)) h (k (above-none (u .filled) e))))
 
 -- the session with a block more has extremes that can be compared
 pub filled-extremes : (s : Session) (number column : ℕ) (p : Profile) (n : ℕ) (u : Tally) → Filling s p n u

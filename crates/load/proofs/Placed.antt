@@ -1,11 +1,11 @@
 -- A profile that opens: what its place gives the code, and the order of its last rules.
-use mathlib.Core.Bool.{Bool, true, false, cond}
+use mathlib.Core.Bool.{Bool, true, false}
 use mathlib.Core.List.{List}
 use mathlib.Core.Path.{_≡_, refl, sym, _∙_, ap, subst⁻¹}
-use Prim.Native.Nat.{ℕ, _+_, _*_, _-_, _≤_, _<_}
+use Prim.Native.Nat.{ℕ, _+_, _-_, _≤_}
 use native.Mathlib.Omega.{arith}
-use borrow.Author.Tests.{leb-true, eqb-true, eqb-false}
-use lib.Dec.{eqb, leb}
+use borrow.Author.Tests.{leb-true, eqb-false}
+use lib.Dec.{eqb}
 use lib.IntN.{ℤ, natAbs}
 use Rattle.laws.proofs.Tests.{clash}
 use Rattle.sheet.specs.RecordA.{rowsOf, columnsOf}
@@ -14,7 +14,7 @@ use Rattle.sheet.specs.declared.lattice.Place.the-variants.{On, Off}
 use Rattle.profile.specs.declared.record_b.Head.{Head}
 use Rattle.session.specs.Session.{busy, openBlocks}
 use Rattle.session.specs.declared.Session.{Session}
-use Rattle.load.specs.Deliver.{columnFits, columnPlace, rowFits, rowPlace, columnFrom, firstColumn, placeNumber, opened, placed, filling, heightsHere, zOf, Verdict}
+use Rattle.load.specs.Deliver.{columnFits, columnPlace, rowFits, rowPlace, columnFrom, firstColumn, placeNumber, opened, placed, filling, heightsHere, zOf}
 use Rattle.load.specs.Steps.{Filling, Placing, Placeable, Ready, BlockScanned, Stepped, fillStep, placeStep}
 use Rattle.load.specs.declared.posts.Scan.{Scan}
 use Rattle.load.specs.declared.posts.Tally.{Tally}

@@ -1,23 +1,18 @@
 -- What a sound session with block 0 taken gives the code, and what a good block 0 does.
-use mathlib.Core.Bool.{Bool, true, false, cond}
-use mathlib.Core.List.{List}
-use mathlib.Core.Path.{_≡_, refl, sym, _∙_, ap}
-use Prim.Native.Nat.{ℕ, _≤_, _<_}
+use mathlib.Core.Bool.{Bool, true, false}
+use mathlib.Core.Path.{_≡_, refl}
+use Prim.Native.Nat.{ℕ, _≤_}
 use native.Mathlib.Omega.{arith}
-use borrow.Author.Tests.{eqb-true, eqb-false, leb-true}
-use lib.Dec.{eqb, leb}
-use lib.ListN.{length}
-use Rattle.laws.specs.Sign.{_and_}
-use Rattle.laws.proofs.Tests.{clash, and-first, and-second}
-use Rattle.sheet.specs.RecordA.{recordA, faultOf, firstFault, fields, wholeFault, headerOf, columnsOf, rowsOf, oneTo2048, cornersInOrder}
-use Rattle.sheet.specs.declared.record_a.Checked.the-variants.{Sheet, Refused}
+use borrow.Author.Tests.{leb-true}
+use lib.Dec.{leb}
+use Rattle.laws.proofs.Tests.{and-second}
+use Rattle.sheet.specs.RecordA.{wholeFault, columnsOf, rowsOf, oneTo2048, cornersInOrder}
 use Rattle.sheet.specs.declared.record_a.Header.{Header}
-use Rattle.sheet.proofs.RulesA.{sheet-header}
-use Rattle.session.specs.Session.{sound, busy}
+use Rattle.session.specs.Session.{sound}
 use Rattle.session.specs.declared.Session.{Session}
-use Rattle.session.proofs.Facts.{begun-facts, header-facts, profile-facts}
+use Rattle.session.proofs.Facts.{begun-facts, header-facts}
 use Rattle.session.proofs.Sound.{sound-begun, taken-bound, posts-bound}
-use Rattle.load.specs.Steps.{Ready, OpenProfile}
+use Rattle.load.specs.Steps.{Ready}
 
 pub ready-of : (s : Session) → sound s ≡ true → 1 ≤ s .taken → Ready s
 ready-of s t h =
@@ -55,24 +50,6 @@ ready-of s t h =
     }
 
 -- ---- a good block 0
-
-whole-fine : (block : List ℕ) → faultOf block .kind ≡ 0 → wholeFault (headerOf block) .kind ≡ 0
-whole-fine block z = go (eqb (length block) 1024) refl (eqb (firstFault block fields .kind) 0) refl
-  where
-    go : (a : Bool) → eqb (length block) 1024 ≡ a → (b : Bool) → eqb (firstFault block fields .kind) 0 ≡ b → wholeFault (headerOf block) .kind ≡ 0
-    go true e true f = rw (e, f) at z
-    go true e false f = absurd (eqb-false (firstFault block fields .kind) 0 f (rw (e, f) at z))
-    go false e b f = let q : _≡_ {A = ℕ} 1 0 = rw e at z in absurd (omega arith)
-
-pub sheet-whole : (block : List ℕ) (h : Header) → recordA block ≡ Sheet h → wholeFault h .kind ≡ 0
-unfolding recordA
-sheet-whole block h e = go (eqb (faultOf block .kind) 0) refl
-  where
-    go : (b : Bool) → eqb (faultOf block .kind) 0 ≡ b → wholeFault h .kind ≡ 0
-    go true t = rw (sheet-header block e) (whole-fine block (eqb-true (faultOf block .kind) 0 t))
-    go false t =
-        let q : Refused (faultOf block .kind) (faultOf block .byte) ≡ Sheet h = rw t at e in
-        let z : _≡_ {A = ℕ} 0 1 = cc in absurd (omega arith)
 
 pub whole-sizes : (h : Header) → wholeFault h .kind ≡ 0 → (columnsOf h ≤ 2048) × (rowsOf h ≤ 2048)
 whole-sizes h z = go (cornersInOrder h) refl (oneTo2048 (columnsOf h)) refl (oneTo2048 (rowsOf h)) refl

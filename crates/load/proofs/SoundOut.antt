@@ -1,9 +1,8 @@
 -- A sound session stays sound: whatever is delivered, the session handed back is sound, and one that is not sound is kept.
 use mathlib.Core.Bool.{Bool, true, false, cond, not}
-use mathlib.Core.List.{List, [], _∷_}
+use mathlib.Core.List.{List}
 use mathlib.Core.Path.{_≡_, refl, sym, _∙_, ap}
-use Prim.Native.Nat.{ℕ, zero, suc, _+_, _*_, _-_, _/_, _%_, _^_, _≤_, _<_, min}
-use native.Mathlib.Nat.{le-of-suc-le-suc, not-suc-le-zero}
+use Prim.Native.Nat.{ℕ, _+_, _*_, _-_, _/_, _%_, _^_, _≤_, _<_, min}
 use native.Mathlib.Omega.{arith}
 use borrow.Author.Tests.{eqb-true, eqb-false, ltb-true, ltb-false, eq-eqb, ne-eqb, lt-ltb}
 use lib.Dec.{ltb, eqb}
@@ -16,36 +15,13 @@ use Rattle.number.specs.Real.{real}
 use Rattle.number.proofs.GrammarParts.{by-test}
 use Rattle.number.proofs.Limits.{Limited, real-limits}
 use Rattle.sheet.specs.Lattice.{notNegative}
-use Rattle.sheet.specs.RecordA.{
-  Row,
-  row,
-  fields,
-  judgeRow,
-  firstFault,
-  faultOf,
-  recordA,
-  headerOf,
-  stretch,
-  inRange,
-  inLimits,
-  ranged,
-  limits,
-  zoneLimits,
-  groundLimits,
-  heightLimits,
-  billion,
-  columnsOf,
-  rowsOf,
-  wholeFault,
-  wholeAt,
-  realAt,
-}
-use Rattle.sheet.specs.RecordA.Rule.{words}
+use Rattle.sheet.specs.RecordA.{row, fields, firstFault, recordA, headerOf, stretch, inRange, inLimits, ranged, limits, zoneLimits, groundLimits, heightLimits, billion, columnsOf, rowsOf, wholeFault, wholeAt, realAt}
 use Rattle.sheet.specs.declared.record_a.Checked.{Checked}
 use Rattle.sheet.specs.declared.record_a.Checked.the-variants.{Sheet, Refused as NoSheet}
 use Rattle.sheet.specs.declared.record_a.Header.{Header}
 use Rattle.sheet.specs.declared.record_a.Limits.{Limits}
-use Rattle.sheet.proofs.RulesA.{sheet-header}
+use Rattle.sheet.proofs.HeaderA.{row-fine, zone-kind, ground-kind, height-kind}
+use Rattle.sheet.proofs.RulesA.{sheet-header, sheet-fine, sheet-whole}
 use Rattle.session.specs.Session.{
   sound,
   busy,
@@ -105,39 +81,11 @@ use Rattle.load.specs.Deliver.{
 }
 use Rattle.load.proofs.Heights.{Cell, heights-length, heights-cells}
 use Rattle.load.proofs.Placed.{row-room, column-room}
-use Rattle.load.proofs.Readiness.{ready-of, sheet-whole}
+use Rattle.load.proofs.Readiness.{ready-of}
 use Rattle.load.proofs.Scans.{posts-length, posts-in-range, scan-fair}
 use Rattle.load.proofs.Tallies.{Fair, InOrder, tally-filled, filled-within}
 
 -- ---- block 0: what is read keeps the fields' rules
-
--- every row of a table without fault is read
-row-read : (block : List ℕ) (rs : List Row) → firstFault block rs .kind ≡ 0 → (i : ℕ) → i < length rs
-    → judgeRow block (getD rs i (row 0 0 words)) .kind ≡ 0
-row-read block [] z i h = absurd (not-suc-le-zero h)
-row-read block (r ∷ rs) z zero h =
-    by-test (eqb (judgeRow block r .kind) 0) (eqb-true (judgeRow block r .kind) 0)
-    (λ e. absurd (eqb-false (judgeRow block r .kind) 0 e (rw e at z)))
-row-read block (r ∷ rs) z (suc i) h =
-    by-test (eqb (judgeRow block r .kind) 0) (λ e. row-read block rs (rw e at z) i (le-of-suc-le-suc h))
-    (λ e. absurd (eqb-false (judgeRow block r .kind) 0 e (rw e at z)))
-
-rows-fine : (block : List ℕ) (h : Header) → recordA block ≡ Sheet h → firstFault block fields .kind ≡ 0
-unfolding recordA
-rows-fine block h e = go (eqb (faultOf block .kind) 0) refl (eqb (length block) 1024) refl (eqb (firstFault block fields .kind) 0) refl
-  where
-    go : (a : Bool) → eqb (faultOf block .kind) 0 ≡ a → (b : Bool) → eqb (length block) 1024 ≡ b
-        → (c : Bool) → eqb (firstFault block fields .kind) 0 ≡ c → firstFault block fields .kind ≡ 0
-    go false t b l c f =
-        let q : NoSheet (faultOf block .kind) (faultOf block .byte) ≡ Sheet h = rw t at e in
-        let z : _≡_ {A = ℕ} 0 1 = cc in absurd (omega arith)
-    go true t false l c f =
-        let z = eqb-true (faultOf block .kind) 0 t in
-        let q : _≡_ {A = ℕ} 1 0 = rw l at z in absurd (omega arith)
-    go true t true l true f = eqb-true (firstFault block fields .kind) 0 f
-    go true t true l false f =
-        let z = eqb-true (faultOf block .kind) 0 t in
-        rw (l, f) at z
 
 in-range : (l : Limits) (z : ℤ) → inLimits l z ≡ true → inRange l (notNegative z) ≡ true
 in-range l (pos v) t = t
@@ -149,29 +97,6 @@ range-read l r n z =
     by-test (eqb (r .kind) 0)
     (λ e. by-test (inLimits l (r .value)) (in-range l (r .value)) (λ i. absurd (n (rw (e, i) at z))))
     (λ e. absurd (eqb-false (r .kind) 0 e (rw e at z)))
-
-zone-kind : (system : ℕ) → zoneLimits system .kind ≡ 0 → ⊥
-zone-kind system = go (eqb system 0) refl (eqb system 1) refl
-  where
-    go : (a : Bool) → eqb system 0 ≡ a → (b : Bool) → eqb system 1 ≡ b → zoneLimits system .kind ≡ 0 → ⊥
-    go true e b f z = let q : _≡_ {A = ℕ} 9 0 = rw e at z in omega arith
-    go false e true f z = let q : _≡_ {A = ℕ} 9 0 = rw (e, f) at z in omega arith
-    go false e false f z = let q : _≡_ {A = ℕ} 9 0 = rw (e, f) at z in omega arith
-
-ground-kind : (system : ℕ) → groundLimits system .kind ≡ 0 → ⊥
-ground-kind system = go (eqb system 0) refl (eqb system 1) refl
-  where
-    go : (a : Bool) → eqb system 0 ≡ a → (b : Bool) → eqb system 1 ≡ b → groundLimits system .kind ≡ 0 → ⊥
-    go true e b f z = let q : _≡_ {A = ℕ} 9 0 = rw e at z in omega arith
-    go false e true f z = let q : _≡_ {A = ℕ} 9 0 = rw (e, f) at z in omega arith
-    go false e false f z = let q : _≡_ {A = ℕ} 9 0 = rw (e, f) at z in omega arith
-
-height-kind : (vertical : ℕ) → heightLimits vertical .kind ≡ 0 → ⊥
-height-kind vertical = go (eqb vertical 1) refl
-  where
-    go : (a : Bool) → eqb vertical 1 ≡ a → heightLimits vertical .kind ≡ 0 → ⊥
-    go true e z = let q : _≡_ {A = ℕ} 7 0 = rw e at z in omega arith
-    go false e z = let q : _≡_ {A = ℕ} 7 0 = rw e at z in omega arith
 
 real-number : (z : ℤ) → Limited z → isRealNumber z ≡ true
 real-number z l = and-both (lt-ltb (natAbs z) (10 ^ 18) (l .0)) (l .1)
@@ -185,16 +110,16 @@ module _ (block : List ℕ) (fine : firstFault block fields .kind ≡ 0) where
   unfolding fields headerOf
   fields-read =
       let spacing = limits billion (9999 * billion) billion 7 in
-      and-both (integer-in (limits 1 3 1 9) 145 (λ e. omega arith) (row-read block fields fine 1 (omega arith)))
-      (and-both (integer-in (limits 0 2 1 9) 157 (λ e. omega arith) (row-read block fields fine 3 (omega arith)))
-      (and-both (integer-in (zoneLimits (wholeAt 157 block)) 163 (zone-kind (wholeAt 157 block)) (row-read block fields fine 4 (omega arith)))
-      (and-both (integer-in (groundLimits (wholeAt 157 block)) 529 (ground-kind (wholeAt 157 block)) (row-read block fields fine 20 (omega arith)))
-      (and-both (integer-in (limits 1 2 1 9) 535 (λ e. omega arith) (row-read block fields fine 21 (omega arith)))
-      (and-both (integer-in (limits 0 1 1 9) 811 (λ e. omega arith) (row-read block fields fine 34 (omega arith)))
-      (and-both (range-read spacing (real (stretch 817 12 block)) (λ e. omega arith) (row-read block fields fine 35 (omega arith)))
-      (and-both (range-read spacing (real (stretch 829 12 block)) (λ e. omega arith) (row-read block fields fine 36 (omega arith)))
-      (and-both (range-read (heightLimits (wholeAt 535 block)) (real (stretch 841 12 block)) (height-kind (wholeAt 535 block)) (row-read block fields fine 37 (omega arith)))
-      (integer-in (limits 1 2048 1 7) 859 (λ e. omega arith) (row-read block fields fine 39 (omega arith)))))))))))
+      and-both (integer-in (limits 1 3 1 9) 145 (λ e. omega arith) (row-fine block fine 1 (omega arith)))
+      (and-both (integer-in (limits 0 2 1 9) 157 (λ e. omega arith) (row-fine block fine 3 (omega arith)))
+      (and-both (integer-in (zoneLimits (wholeAt 157 block)) 163 (λ e. omega (arith, zone-kind (wholeAt 157 block))) (row-fine block fine 4 (omega arith)))
+      (and-both (integer-in (groundLimits (wholeAt 157 block)) 529 (λ e. omega (arith, ground-kind (wholeAt 157 block))) (row-fine block fine 20 (omega arith)))
+      (and-both (integer-in (limits 1 2 1 9) 535 (λ e. omega arith) (row-fine block fine 21 (omega arith)))
+      (and-both (integer-in (limits 0 1 1 9) 811 (λ e. omega arith) (row-fine block fine 34 (omega arith)))
+      (and-both (range-read spacing (real (stretch 817 12 block)) (λ e. omega arith) (row-fine block fine 35 (omega arith)))
+      (and-both (range-read spacing (real (stretch 829 12 block)) (λ e. omega arith) (row-fine block fine 36 (omega arith)))
+      (and-both (range-read (heightLimits (wholeAt 535 block)) (real (stretch 841 12 block)) (λ e. omega (arith, height-kind (wholeAt 535 block))) (row-fine block fine 37 (omega arith)))
+      (integer-in (limits 1 2048 1 7) 859 (λ e. omega arith) (row-fine block fine 39 (omega arith)))))))))))
 
   real-in : (first : ℕ) → real (stretch first 24 block) .kind ≡ 0 → isRealNumber (realAt first block) ≡ true
   real-in first z = real-number (realAt first block) (real-limits (stretch first 24 block) z)
@@ -202,19 +127,19 @@ module _ (block : List ℕ) (fine : firstFault block fields .kind ≡ 0) where
   reals-read : realsObey (headerOf block) ≡ true
   unfolding fields headerOf
   reals-read =
-      and-both (and-both (real-in 547 (row-read block fields fine 23 (omega arith))) (real-in 571 (row-read block fields fine 24 (omega arith))))
-      (and-both (and-both (real-in 595 (row-read block fields fine 25 (omega arith))) (real-in 619 (row-read block fields fine 26 (omega arith))))
-      (and-both (and-both (real-in 643 (row-read block fields fine 27 (omega arith))) (real-in 667 (row-read block fields fine 28 (omega arith))))
-      (and-both (and-both (real-in 691 (row-read block fields fine 29 (omega arith))) (real-in 715 (row-read block fields fine 30 (omega arith))))
-      (and-both (real-in 739 (row-read block fields fine 31 (omega arith))) (real-in 763 (row-read block fields fine 32 (omega arith)))))))
+      and-both (and-both (real-in 547 (row-fine block fine 23 (omega arith))) (real-in 571 (row-fine block fine 24 (omega arith))))
+      (and-both (and-both (real-in 595 (row-fine block fine 25 (omega arith))) (real-in 619 (row-fine block fine 26 (omega arith))))
+      (and-both (and-both (real-in 643 (row-fine block fine 27 (omega arith))) (real-in 667 (row-fine block fine 28 (omega arith))))
+      (and-both (and-both (real-in 691 (row-fine block fine 29 (omega arith))) (real-in 715 (row-fine block fine 30 (omega arith))))
+      (and-both (real-in 739 (row-fine block fine 31 (omega arith))) (real-in 763 (row-fine block fine 32 (omega arith)))))))
 
 -- the header of a good block 0 obeys record A
 pub sheet-obeys : (block : List ℕ) (h : Header) → recordA block ≡ Sheet h → headerObeys h ≡ true
 sheet-obeys block h e =
-    let fine = rows-fine block h e in
+    let fine = sheet-fine block e in
     let same : h ≡ headerOf block = sheet-header block e in
     and-both (ap fieldsObey same ∙ fields-read block fine)
-    (and-both (ap realsObey same ∙ reals-read block fine) (eq-eqb (wholeFault h .kind) 0 (sheet-whole block h e)))
+    (and-both (ap realsObey same ∙ reals-read block fine) (eq-eqb (wholeFault h .kind) 0 (sheet-whole block e)))
 
 pub sound-begun : (block : List ℕ) (h : Header) → recordA block ≡ Sheet h → sound (begun h) ≡ true
 sound-begun block h e =

@@ -1,6 +1,6 @@
 -- Document 01, "What a delivery answers": what one delivery answers, for every session, number, block and grid.
 use mathlib.Core.Bool.{Bool, true, false, cond, not}
-use mathlib.Core.List.{List, [], _∷_, _++_}
+use mathlib.Core.List.{List, [], _++_}
 use Prim.Native.Nat.{ℕ, _+_, _*_, _-_, _/_, _^_, min}
 use lib.IntN.{ℤ, pos, _*ℤ_}
 use lib.Dec.{leb, ltb, eqb}
@@ -8,7 +8,7 @@ use lib.ListN.{length, drop, replicate}
 use lib.Seq.{sets}
 use Rattle.laws.specs.Sign.{_and_}
 use Rattle.sheet.specs.Lattice.{latticeOf, placeOf}
-use Rattle.sheet.specs.RecordA.{recordA, columnsOf, rowsOf, west, east, south, north, fault}
+use Rattle.sheet.specs.RecordA.{recordA, columnsOf, rowsOf, west, east, south, north}
 use Rattle.sheet.specs.declared.lattice.Place.{Place}
 use Rattle.sheet.specs.declared.lattice.Place.the-variants.{On, Off}
 use Rattle.sheet.specs.declared.record_a.Checked.{Checked}
@@ -20,11 +20,10 @@ use Rattle.profile.specs.RecordC.{recordC}
 use Rattle.profile.specs.declared.record_b.Head.{Head}
 use Rattle.profile.specs.declared.record_b.Headed.{Headed}
 use Rattle.profile.specs.declared.record_b.Headed.the-variants.{Profile as Headed·Profile, Refused as NoProfile}
-use Rattle.session.specs.Session.{fresh, sound, busy, openBlocks, noProfile}
+use Rattle.session.specs.Session.{unread, sound, busy, openBlocks, noProfile}
 use Rattle.session.specs.declared.Profile.{Profile}
 use Rattle.session.specs.declared.Session.{Session}
 use Rattle.load.specs.Posts.{void, postsFault, postsOf, restFault, heights, tallyAll, sameZ}
-use Rattle.load.specs.declared.Answer.{Answer}
 use Rattle.load.specs.declared.Answer.the-variants.{Taken, Held, Refused}
 use Rattle.load.specs.declared.Delivered.{Delivered}
 use Rattle.load.specs.declared.posts.Tally.{Tally}
@@ -274,19 +273,7 @@ verdictOf s number block cells =
 
 -- "After block 0: those, taken 1, all else zero"
 abbrev pub begun : Header → Session
-begun h =
-    record {
-      header = h;
-      taken = 1;
-      closed = 0;
-      posts = 0;
-      filled = 0;
-      low = pos 0;
-      high = pos 0;
-      column = 0;
-      finished = 0;
-      profile = noProfile;
-    }
+begun h = unread h 1
 
 -- "Held and refused change nothing."
 abbrev pub answerOf : Session → Verdict → Delivered

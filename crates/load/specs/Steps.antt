@@ -1,43 +1,18 @@
 -- How the code takes a delivery apart: contracts of private functions. The public promise cites `deliverOf` and `cellsAfter` alone.
-use mathlib.Core.Bool.{Bool, true, false, cond, not}
-use mathlib.Core.List.{List, []}
+use mathlib.Core.Bool.{true, false, cond, not}
+use mathlib.Core.List.{List}
 use mathlib.Core.Path.{_≡_}
-use Prim.Native.Nat.{ℕ, _+_, _*_, _-_, _^_, _≤_, _<_}
+use Prim.Native.Nat.{ℕ, _+_, _-_, _≤_, _<_}
 use lib.IntN.{ℤ, natAbs}
 use lib.Dec.{ltb, eqb}
 use lib.ListN.{length, take}
 use Rattle.sheet.specs.RecordA.{columnsOf, rowsOf, lesser, greater, fault}
-use Rattle.sheet.specs.declared.record_a.Header.{Header}
 use Rattle.profile.specs.RecordC.{recordC}
 use Rattle.profile.specs.declared.record_b.Head.{Head}
 use Rattle.session.specs.Session.{sound, busy, openBlocks}
 use Rattle.session.specs.declared.Profile.{Profile}
 use Rattle.session.specs.declared.Session.{Session}
-use Rattle.load.specs.Deliver.{
-  Verdict,
-  again,
-  wrong,
-  begins,
-  fills,
-  answerOf,
-  cellsBy,
-  cellsOf,
-  zOf,
-  complete,
-  blockFault,
-  columnFits,
-  columnPlace,
-  rowFits,
-  rowPlace,
-  firstColumn,
-  opened,
-  closeFault,
-  closedSession,
-  finishedSession,
-  sheetTally,
-  profileTally,
-  nextCell,
-}
+use Rattle.load.specs.Deliver.{Verdict, wrong, fills, answerOf, cellsBy, cellsOf, zOf, complete, blockFault, columnFits, columnPlace, rowFits, rowPlace, firstColumn, opened, closeFault, closedSession, finishedSession, sheetTally, profileTally, nextCell}
 use Rattle.load.specs.Posts.{postsFault, postsOf, heights, tallyAll, noTally}
 use Rattle.load.specs.declared.Delivered.{Delivered}
 use Rattle.load.specs.declared.posts.Scan.{Scan}

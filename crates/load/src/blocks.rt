@@ -14,7 +14,6 @@ use sheet::record_a;
 ghost use mathlib.Core.Path.{_≡_};
 ghost use mathlib.Core.Bool.{false};
 ghost use Prim.Native.Nat.{_+_, _≤_, _<_, min};
-ghost use lib.Dec.{leb};
 ghost use Rattle.load.specs.Posts.{noTally};
 ghost use Rattle.load.specs.Scan.{Asked};
 ghost use Rattle.load.specs.Steps.{BlockScanned, Opened, Opening, Placeable, Next, Stepped, Ready, placeStep, finishStep};
@@ -37,7 +36,7 @@ fn scan_block(block: &[u8], byte: usize, n: usize, z: u64, datum: i64, scratch: 
         return r;
     }
     let from = byte - 1 + 6 * n;
-    if posts::rest_blank(block, from) {
+    if profile::blank_from(block, from) {
         let tally = r.tally;
         return Scan {
             kind: 0,
@@ -108,16 +107,6 @@ fn place_number(p: Place) -> u64
     }
 }
 
-// Room for n from a place on: i + n ≤ all, without a sum that could wrap.
-fn leaves_room(i: u64, n: u64, all: u64) -> bool
-    ensures { λ r. ⌜ r ≡ leb (i + n) all ⌝ }
-{
-    if all < n {
-        return false;
-    }
-    i <= all - n
-}
-
 fn column_fits(s: Session, p: Place) -> bool
     requires { ⌜ Ready s ⌝ }
     ensures { λ r. ⌜ r ≡ columnFits s p ⌝ }
@@ -127,7 +116,7 @@ fn column_fits(s: Session, p: Place) -> bool
         Place::On(c) => {
             if s.closed == 0 {
                 let columns = record_a::column_lattice(h);
-                leaves_room(c, h.profiles, columns.count)
+                lattice::leaves_room(c, h.profiles, columns.count)
             } else {
                 c == s.column + s.closed
             }
@@ -143,7 +132,7 @@ fn row_fits(s: Session, posts: u64, p: Place) -> bool
     match p {
         Place::On(r) => {
             let rows = record_a::row_lattice(h);
-            leaves_room(r, posts, rows.count)
+            lattice::leaves_room(r, posts, rows.count)
         }
         Place::Off => false,
     }

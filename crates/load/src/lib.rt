@@ -82,20 +82,10 @@ fn gate(s: Session, number: u64, bytes: usize, cells: usize) -> Gate
 fn begun_session(header: Header) -> Session
     ensures { λ r. ⌜ r ≡ begun header ⌝ }
 {
-    let empty = session::new();
-    let profile = empty.profile;
-    Session {
-        header,
-        taken: 1,
-        closed: 0,
-        posts: 0,
-        filled: 0,
-        low: 0,
-        high: 0,
-        column: 0,
-        finished: 0,
-        profile,
-    }
+    let mut s = session::new();
+    s.header = header;
+    s.taken = 1;
+    s
 }
 
 // Block 0: the header, then its cells made void.

@@ -8,8 +8,6 @@ ghost use lib.Dec.{leb};
 ghost use lib.IntN.{natAbs};
 ghost use lib.ListN.{length, take, drop, replicate};
 ghost use lib.Seq.{sets};
-ghost use Rattle.number.specs.Bytes.{isBlank};
-ghost use Rattle.number.specs.Grammar.{every};
 ghost use Rattle.load.specs.Posts.{void, sameZ, judgePost, height, tallyOne};
 ghost use Rattle.load.specs.Scan.{Asked, Scanned, Scaled};
 
@@ -127,21 +125,6 @@ pub(crate) fn scan_posts(
         byte: 0,
         tally: t,
     }
-}
-
-// All that remains of a block is blank.
-pub(crate) fn rest_blank(block: &[u8], from: usize) -> bool
-    requires { ⌜ from ≤ length (now block) ⌝ }
-    ensures { λ r. ⌜ r ≡ every isBlank (drop from (now (block .entry))) ⌝ }
-{
-    let mut i = from;
-    while i < block.len() {
-        if block[i] != 32 {
-            return false;
-        }
-        i += 1;
-    }
-    true
 }
 
 pub(crate) fn void_cells(grid: &mut [i32], n: usize)

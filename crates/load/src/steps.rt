@@ -4,14 +4,13 @@ use crate::posts::Tally;
 use session::Profile;
 use session::Session;
 ghost use mathlib.Core.Path.{_≡_};
-ghost use mathlib.Core.Bool.{true};
 ghost use Prim.Native.Nat.{_+_, _*_, _^_, _≤_, _<_};
 ghost use lib.IntN.{natAbs};
-ghost use Rattle.sheet.specs.RecordA.{rowsOf, columnsOf};
-ghost use Rattle.session.specs.Session.{openBlocks, busy};
+ghost use Rattle.sheet.specs.RecordA.{rowsOf};
+ghost use Rattle.session.specs.Session.{openBlocks};
 ghost use Rattle.load.specs.Posts.{sameZ};
 ghost use Rattle.load.specs.Deliver.{stated, closeFault, closedSession, nextCell, refusal, profileTally, sheetTally};
-ghost use Rattle.load.specs.Steps.{merged, readWith, filledWith, closeStep, fillStep, Ready, Filling, Placing, Extremes};
+ghost use Rattle.load.specs.Steps.{merged, readWith, filledWith, fillStep, Ready, Filling, Placing, Extremes};
 
 // What the first tests leave: a refusal, a held block, block 0, or a later block.
 pub(crate) enum Gate {

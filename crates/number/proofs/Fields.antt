@@ -1,5 +1,5 @@
 -- An integer field judged by the places that the code found, and the lengths that a field may have.
-use mathlib.Core.Bool.{Bool, true, false, cond, not}
+use mathlib.Core.Bool.{true, false, not}
 use mathlib.Core.List.{List, [], _∷_}
 use mathlib.Core.Path.{_≡_, refl, sym, _∙_, ap}
 use Prim.Native.Nat.{ℕ, _-_, _≤_, _<_}
@@ -7,8 +7,7 @@ use native.Mathlib.Omega.{arith}
 use borrow.Author.Tests.{le-leb, lt-leb}
 use lib.Dec.{leb}
 use lib.ListN.{length, drop, length-drop}
-use Rattle.laws.specs.Sign.{_and_}
-use Rattle.laws.proofs.Tests.{and-both, and-fails-first, and-fails-second}
+use Rattle.laws.proofs.Tests.{and-fails-second}
 use Rattle.number.specs.Bytes.{isBlank, isSign, isDigit, isEmpty, pastOne, pastAll, digits}
 use Rattle.number.specs.Integer.{integer, integerForm, integerValue, unsignedPart, within, read, refused}
 use Rattle.number.specs.Steps.{Past}

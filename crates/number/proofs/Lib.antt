@@ -1,3 +1,4 @@
+pub mod Tens
 pub mod Places
 pub mod Runs
 pub mod Fields

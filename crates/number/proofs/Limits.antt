@@ -1,17 +1,17 @@
 -- What a real that reads is bound to: its size is below 10 ^ 18 billionths and has at most 15 significant digits; the tests of `billionths` say so.
 use mathlib.Core.Bool.{Bool, true, false}
 use mathlib.Core.List.{List}
-use mathlib.Core.Path.{_≡_, refl}
+use mathlib.Core.Path.{_≡_}
 use Prim.Native.Nat.{ℕ, _*_, _/_, _%_, _^_, _<_}
 use native.Mathlib.Nat.{div-lt-iff-lt-mul}
 use native.Mathlib.Omega.{arith}
 use borrow.Author.Tests.{leb-false}
 use lib.Dec.{leb, eqb}
-use lib.IntN.{ℤ, pos, natAbs}
+use lib.IntN.{ℤ, natAbs}
 use lib.ListN.{length}
-use Rattle.laws.specs.Sign.{_and_, signed}
+use Rattle.laws.specs.Sign.{_and_}
 use Rattle.laws.specs.Digits.{short}
-use Rattle.laws.proofs.Integers.{size-minus}
+use Rattle.laws.proofs.Integers.{signed-size}
 use Rattle.laws.proofs.Tens.{ten-pos}
 use Rattle.laws.proofs.Tests.{and-second}
 use Rattle.number.specs.Bytes.{isBlank, isMinus, starts, pastAll, number}
@@ -21,10 +21,6 @@ use Rattle.number.proofs.GrammarParts.{by-test}
 
 abbrev pub Limited : ℤ → Type 0
 Limited z = (natAbs z < 10 ^ 18) × (short 18 15 (natAbs z) ≡ true)
-
-signed-size : (minus : Bool) (n : ℕ) → natAbs (signed minus n) ≡ n
-signed-size true n = size-minus (pos n)
-signed-size false n = refl
 
 module _ (minus : Bool) (m u d : ℕ) (z : billionths minus m u d .kind ≡ 0) where
   abbrev top : ℕ

@@ -1,26 +1,25 @@
 -- A power of ten judged by the places that the code found.
-use mathlib.Core.Bool.{Bool, true, false, cond}
+use mathlib.Core.Bool.{Bool, true, false}
 use mathlib.Core.List.{List}
 use mathlib.Core.Logic.{_⊎_, inl, inr}
-use mathlib.Core.Path.{_≡_, refl, sym, _∙_, ap, subst⁻¹}
-use Prim.Native.Nat.{ℕ, _+_, _-_, _^_, _≤_, _<_}
+use mathlib.Core.Path.{_≡_, sym, _∙_, ap, subst⁻¹}
+use Prim.Native.Nat.{ℕ, _+_, _-_, _≤_, _<_}
 use native.Mathlib.Nat.{lt-of-lt-of-le}
 use native.Mathlib.Omega.{arith}
-use borrow.Author.Tests.{le-leb, lt-leb}
+use borrow.Author.Tests.{le-leb}
 use lib.Dec.{leb, lit<}
 use Rattle.laws.specs.Sign.{_and_}
 use lib.ListN.{length, drop, getD}
 use Rattle.laws.proofs.Tens.{ten-up}
 use Rattle.laws.proofs.Tests.{clash, and-fails-second}
 use Rattle.number.specs.Bytes.{isLetter, isSign, isMinus, isDigit, starts, pastOne, pastAll, digits, number}
-use Rattle.number.specs.Grammar.{every}
-use Rattle.number.specs.Real.{power, powerForm, powerMinus, powerSize, pastPower}
+use Rattle.number.specs.Real.{power}
 use Rattle.number.specs.Steps.{Past, RunAt, PowerAt, Leads, none}
-use Rattle.number.specs.declared.decimal.Power.{Power}
 use Rattle.number.specs.declared.decimal.Run.{Run}
 use Rattle.number.proofs.Places.{one-taken, starts-here}
 use Rattle.number.proofs.Runs.{run-length, number-below}
-use Rattle.number.proofs.Scale.{leads-none, leads-all, leads-whole, digits-are}
+use Rattle.number.proofs.GrammarParts.{digits-every}
+use Rattle.number.proofs.Scale.{leads-none, leads-all, leads-whole}
 
 pub power-none : (s : List ℕ) (from : ℕ) → from ≤ length s → starts isLetter (drop from s) ≡ false
     → PowerAt s from (record { good = true; next = from; minus = false; size = 0 })
@@ -76,10 +75,10 @@ module _ (s : List ℕ) (from first : ℕ) (r : Run) (here : from < length s) (l
       below : number 0 (digits (drop first s)) < 100
       below =
           let k : 0 + length (digits (drop first s)) ≤ 2 = omega (arith, run-length s first (r .next) (run .past)) in
-          lt-of-lt-of-le (number-below 0 0 (digits (drop first s)) (digits-are (drop first s)) (lit< tt)) (ten-up k)
+          lt-of-lt-of-le (number-below 0 0 (digits (drop first s)) (digits-every (drop first s)) (lit< tt)) (ten-up k)
 
       whole : r .kept .head ≡ number 0 (digits (drop first s))
       whole =
           leads-whole (number 0 (digits (drop first s))) (r .kept) (omega (arith, below))
           (subst⁻¹ (Leads (number 0 (digits (drop first s)))) (run .kept)
-          (leads-all 0 none (digits (drop first s)) (digits-are (drop first s)) leads-none))
+          (leads-all 0 none (digits (drop first s)) (digits-every (drop first s)) leads-none))

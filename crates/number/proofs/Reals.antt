@@ -1,37 +1,22 @@
 -- A real field judged by the places that the code found, and its value from the kept digits.
-use mathlib.Core.Bool.{Bool, true, false, cond, not}
+use mathlib.Core.Bool.{Bool, true, false, not}
 use mathlib.Core.List.{List}
-use mathlib.Core.Path.{_≡_, refl, sym, _∙_, ap, ap₂, subst⁻¹}
+use mathlib.Core.Path.{_≡_, sym, _∙_, ap, subst⁻¹}
 use Prim.Native.Nat.{ℕ, _+_, _≤_, _<_}
 use native.Mathlib.Nat.{add-zero}
 use native.Mathlib.Omega.{arith}
 use lib.ListN.{length, drop, length-drop}
-use Rattle.laws.specs.Sign.{_and_}
 use Rattle.laws.proofs.Tests.{and-fails-first, and-fails-second}
-use Rattle.number.specs.Bytes.{isBlank, isSign, isMinus, isEmpty, starts, pastOne, pastAll, digits, isDigit, number}
-use Rattle.number.specs.Grammar.{every}
+use Rattle.number.specs.Bytes.{isBlank, isMinus, isEmpty, starts, pastAll, digits, isDigit, number}
 use Rattle.number.specs.Integer.{unsignedPart, refused}
-use Rattle.number.specs.Real.{
-  real,
-  realForm,
-  realValue,
-  mantissaDigits,
-  fractionPart,
-  pastMantissa,
-  powerForm,
-  powerMinus,
-  powerSize,
-  pastPower,
-  up,
-  down,
-  billionths,
-}
-use Rattle.number.specs.Steps.{Past, MantissaAt, PowerAt, PowerIs, ScaledAt, Leads, none, keptAll, readingOf}
+use Rattle.number.specs.Real.{real, realForm, realValue, mantissaDigits, fractionPart, pastMantissa, powerForm, powerMinus, powerSize, pastPower}
+use Rattle.number.specs.Steps.{Past, MantissaAt, PowerAt, ScaledAt, Leads, none, keptAll, readingOf}
 use Rattle.number.specs.declared.decimal.Mantissa.{Mantissa}
 use Rattle.number.specs.declared.decimal.Power.{Power}
 use Rattle.number.specs.declared.decimal.Scaled.{Scaled}
-use Rattle.number.proofs.Fields.{within-good, empty-none, empty-some, unsigned-is}
-use Rattle.number.proofs.Scale.{leads-none, leads-all, digits-are, every-append}
+use Rattle.number.proofs.Fields.{within-good, empty-none, empty-some}
+use Rattle.number.proofs.GrammarParts.{digits-every}
+use Rattle.number.proofs.Scale.{leads-none, leads-all, every-append}
 
 module _ (s : List ℕ) (h : 1 ≤ length s) (k : length s ≤ 24) where
   pub real-wrong : realForm (unsignedPart s) ≡ false → real s ≡ refused 6
@@ -87,8 +72,8 @@ module _ (s : List ℕ) (u : ℕ) (is : drop u s ≡ unsignedPart s) (m : Mantis
       kept-leads =
           subst⁻¹ (Leads (number 0 (mantissaDigits (unsignedPart s)))) (ma .kept ∙ ap (λ l. keptAll none (mantissaDigits l)) is)
           (leads-all 0 none (mantissaDigits (unsignedPart s))
-          (every-append isDigit (digits (unsignedPart s)) (digits (fractionPart (unsignedPart s))) (digits-are (unsignedPart s))
-          (digits-are (fractionPart (unsignedPart s))))
+          (every-append isDigit (digits (unsignedPart s)) (digits (fractionPart (unsignedPart s))) (digits-every (unsignedPart s))
+          (digits-every (fractionPart (unsignedPart s))))
           leads-none)
 
       places-is : m .places ≡ length (digits (fractionPart (unsignedPart s)))

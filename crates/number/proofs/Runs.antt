@@ -5,7 +5,7 @@ use mathlib.Core.Path.{_≡_, refl, sym, _∙_, ap}
 use Prim.Native.Nat.{ℕ, suc, _+_, _*_, _-_, _^_, _≤_, _<_}
 use native.Mathlib.Nat.{sub-self, add-zero, pow-suc}
 use native.Mathlib.Omega.{arith}
-use borrow.Author.Tests.{ltb-true, ltb-false}
+use borrow.Author.Tests.{ltb-true}
 use lib.Dec.{ltb}
 use lib.ListN.{length, drop, getD, length-drop}
 use Rattle.laws.proofs.Tens.{ten-up, room}
@@ -14,9 +14,7 @@ use Rattle.number.specs.Bytes.{isDigit, pastAll, digits, number}
 use Rattle.number.specs.Grammar.{every}
 use Rattle.number.specs.Steps.{Past, WholeAt, RunAt, keptOne, keptAll}
 use Rattle.number.specs.declared.decimal.Kept.{Kept}
-use Rattle.number.specs.declared.decimal.Run.{Run}
-use Rattle.number.specs.declared.walk.Whole.{Whole}
-use Rattle.number.proofs.Places.{all-turn, all-stop, all-end, digits-turn, digits-stop, digits-end, digit-range}
+use Rattle.number.proofs.Places.{all-turn, all-stop, all-end, digits-turn, digit-range}
 
 -- from `from` to i every byte was a digit
 pub record Passing (s : List ℕ) (from i : ℕ) : Type 0 where

@@ -3,33 +3,11 @@ use mathlib.Core.Bool.{Bool, true, false, cond, not}
 use mathlib.Core.List.{List, [], _∷_, _++_}
 use mathlib.Core.Path.{_≡_, refl, sym, _∙_, ap, subst}
 use Prim.Native.Nat.{ℕ, zero, suc, _+_, _*_, _-_, _/_, _%_, _^_, _≤_, _<_}
-use native.Mathlib.Nat.{
-  mul-assoc,
-  mul-comm,
-  add-mul,
-  mul-le-mul-left,
-  mul-le-mul-right,
-  mul-lt-mul-of-pos-right,
-  mul-one,
-  mul-mod-left,
-  mul-div-cancel,
-  mul-div-mul-right,
-  mod-eq-of-lt,
-  pow-suc,
-  pow-zero,
-  div-add-mod',
-  lt-of-lt-of-le,
-  lt-of-mul-lt-mul-right,
-  eq-of-mul-eq-mul-right,
-  div-lt-iff-lt-mul,
-  div-le-self,
-  le-trans,
-  zero-mul,
-}
+use native.Mathlib.Nat.{mul-assoc, add-mul, mul-le-mul-left, mul-le-mul-right, mul-lt-mul-of-pos-right, mul-one, mul-mod-left, mul-div-cancel, mod-eq-of-lt, pow-suc, pow-zero, div-add-mod', lt-of-lt-of-le, lt-of-mul-lt-mul-right, eq-of-mul-eq-mul-right, div-lt-iff-lt-mul, div-le-self, zero-mul}
 use native.Mathlib.Decide.{decLe}
 use native.Mathlib.Numerals.{add-one}
 use native.Mathlib.Omega.{arith}
-use borrow.Author.Tests.{ltb-true, ltb-false, le-leb, lt-leb, eq-eqb, ne-eqb, eqb-true, eqb-false, leb-true, leb-false}
+use borrow.Author.Tests.{ltb-true, ltb-false, le-leb, lt-leb, ne-eqb, eqb-true, eqb-false, leb-true, leb-false}
 use lib.Arith.{digits-mod}
 use lib.Dec.{leb, ltb, eqb, lit<, lit≤}
 use lib.Pow.{pow-add}
@@ -38,7 +16,7 @@ use Rattle.laws.specs.Digits.{short}
 use Rattle.laws.proofs.Tens.{ten-pos, ten-up}
 use Rattle.laws.proofs.Tests.{clash, and-both, and-first, and-second, and-fails-first}
 use Rattle.laws.proofs.Shorts.{FewDigits, short-few, few-short}
-use Rattle.number.specs.Bytes.{isDigit, digits, number}
+use Rattle.number.specs.Bytes.{isDigit, number}
 use Rattle.number.specs.Grammar.{every}
 use Rattle.number.specs.Integer.{read, refused}
 use Rattle.number.specs.Real.{billionths}
@@ -100,14 +78,6 @@ leads-one m k d h l = go (ltb (k .head) (10 ^ 14)) refl
           small = l .small;
           full = λ p. q;
         }
-
-pub digits-are : (s : List ℕ) → every isDigit (digits s) ≡ true
-digits-are [] = refl
-digits-are (c ∷ s) = go (digits-are s) (isDigit c) refl
-  where
-    go : every isDigit (digits s) ≡ true → (b : Bool) → isDigit c ≡ b → every isDigit (digits (c ∷ s)) ≡ true
-    go h true e = rw e (rw (e, h))
-    go h false e = rw e
 
 pub leads-all : (m : ℕ) (k : Kept) (ds : List ℕ) → every isDigit ds ≡ true → Leads m k → Leads (number m ds) (keptAll k ds)
 leads-all m k [] e l = l

@@ -3,3 +3,4 @@ pub mod Grammar
 pub mod Integer
 pub mod Real
 pub mod Steps
+pub mod Tens

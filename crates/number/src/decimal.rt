@@ -3,7 +3,7 @@
 use crate::walk;
 ghost use mathlib.Core.Path.{_≡_};
 ghost use Prim.Native.Nat.{_+_, _≤_, _<_, _^_};
-ghost use lib.ListN.{length, drop};
+ghost use lib.ListN.{length};
 ghost use Rattle.number.specs.Bytes.{isPoint, isLetter, pastOne};
 ghost use Rattle.number.specs.Steps.{Past, RunAt, MantissaAt, PowerAt, ScaledAt, keptOne, upOf, downOf};
 
@@ -42,35 +42,6 @@ const TOO_FINE: u32 = 8;
 pub(crate) enum Scaled {
     Exact(u64),
     Refused(u32),
-}
-
-const TENS: [u64; 19] = [
-    1,
-    10,
-    100,
-    1000,
-    10000,
-    100000,
-    1000000,
-    10000000,
-    100000000,
-    1000000000,
-    10000000000,
-    100000000000,
-    1000000000000,
-    10000000000000,
-    100000000000000,
-    1000000000000000,
-    10000000000000000,
-    100000000000000000,
-    1000000000000000000,
-];
-
-fn ten_to(k: usize) -> u64
-    requires { ⌜ k < 19 ⌝ }
-    ensures { λ r. ⌜ r ≡ 10 ^ k ⌝ }
-{
-    TENS[k]
 }
 
 pub(crate) fn keep(k: Kept, d: u64) -> Kept
@@ -220,13 +191,13 @@ fn scale_up(head: u64, more: bool, d: usize) -> Scaled
     if 18 <= d {
         return Scaled::Refused(TOO_LARGE);
     }
-    if ten_to(18 - d) <= head {
+    if crate::ten_to(18 - d) <= head {
         return Scaled::Refused(TOO_LARGE);
     }
     if more {
         return Scaled::Refused(TOO_FINE);
     }
-    Scaled::Exact(head * ten_to(d))
+    Scaled::Exact(head * crate::ten_to(d))
 }
 
 fn scale_down(head: u64, more: bool, d: usize) -> Scaled
@@ -239,7 +210,7 @@ fn scale_down(head: u64, more: bool, d: usize) -> Scaled
     if 15 <= d {
         return Scaled::Refused(TOO_FINE);
     }
-    let power = ten_to(d);
+    let power = crate::ten_to(d);
     if head % power != 0 {
         return Scaled::Refused(TOO_FINE);
     }

@@ -5,10 +5,12 @@ mod walk;
 use decimal::Scaled;
 ghost use mathlib.Core.Path.{_≡_};
 ghost use Prim.Native.Nat.{ℕ, _<_, _^_};
+ghost use lib.IntN.{natAbs};
 ghost use Rattle.laws.specs.Sign.{signed};
 ghost use Rattle.number.specs.Integer.{integer, refused};
 ghost use Rattle.number.specs.Real.{real};
 ghost use Rattle.number.specs.Steps.{readingOf};
+ghost use Rattle.number.specs.Tens.{tenTo};
 
 // Kind 0 is a good reading; any other kind is document 01's number of the refusal, with the value 0.
 pub struct Reading {
@@ -21,10 +23,52 @@ const WRONG_LENGTH: u32 = 1;
 
 const WRONG_FORM: u32 = 6;
 
+const TENS: [u64; 19] = [
+    1,
+    10,
+    100,
+    1000,
+    10000,
+    100000,
+    1000000,
+    10000000,
+    100000000,
+    1000000000,
+    10000000000,
+    100000000000,
+    1000000000000,
+    10000000000000,
+    100000000000000,
+    1000000000000000,
+    10000000000000000,
+    100000000000000000,
+    1000000000000000000,
+];
+
 fn refuse(kind: u32) -> Reading
     ensures { λ r. ⌜ r ≡ refused kind ⌝ }
 {
     Reading { kind, value: 0 }
+}
+
+// A power of ten, for the reading here and the writing above; 0 past the greatest that they need.
+pub fn ten_to(k: usize) -> u64
+    ensures { λ r. ⌜ r ≡ tenTo k ⌝ }
+{
+    if 18 < k {
+        return 0;
+    }
+    TENS[k]
+}
+
+// A number without its sign. Raised by one before it is turned, so that the least i64 has a size too.
+pub fn size_of(z: i64) -> u64
+    ensures { λ r. ⌜ r ≡ natAbs z ⌝ }
+{
+    if z < 0 {
+        return (-(z + 1)) as u64 + 1;
+    }
+    z as u64
 }
 
 fn join(minus: bool, size: u64) -> i64

@@ -3,13 +3,17 @@
 use mathlib.Core.Bool.{Bool, cond}
 use mathlib.Core.List.{List}
 use mathlib.Core.Path.{_≡_}
-use Prim.Native.Nat.{ℕ}
+use Prim.Native.Nat.{ℕ, _+_}
+use lib.Dec.{leb}
 use lib.IntN.{ℤ, natAbs}
-use lib.ListN.{length, take}
+use lib.ListN.{length, take, drop}
 use Rattle.laws.proofs.Answers.{one-answer}
 use Rattle.number.specs.declared.Reading.{Reading}
+use Rattle.number.specs.Bytes.{isBlank}
+use Rattle.number.specs.Grammar.{every}
 use Rattle.number.specs.Integer.{integer}
 use Rattle.number.specs.Real.{real}
+use Rattle.number.specs.Tens.{tenTo}
 use Rattle.label.specs.Label.{originOf, nameLength}
 use Rattle.spell.specs.Spell.{integerText, integerFits, realText, realFits}
 use Rattle.sheet.specs.Lattice.{latticeOf, placeOf, notNegative}
@@ -55,6 +59,12 @@ read-integer field = one-answer
 pub read-real : (field : List ℕ) {a b : Reading} → a ≡ real field → b ≡ real field → a ≡ b
 read-real field = one-answer
 
+pub ten-to : (k : ℕ) {a b : ℕ} → a ≡ tenTo k → b ≡ tenTo k → a ≡ b
+ten-to k = one-answer
+
+pub size-of : (z : ℤ) {a b : ℕ} → a ≡ natAbs z → b ≡ natAbs z → a ≡ b
+size-of z = one-answer
+
 pub write-integer : (value : ℤ) (field : List ℕ) {a b : Bool} → a ≡ integerFits (length field) value → b ≡ integerFits (length field) value → a ≡ b
 write-integer value field = one-answer
 
@@ -79,14 +89,14 @@ origin block = one-answer
 pub name : (block : List ℕ) {a b : List ℕ} → a ≡ take (nameLength block) block → b ≡ take (nameLength block) block → a ≡ b
 name block = one-answer
 
-pub size-of : (z : ℤ) {a b : ℕ} → a ≡ natAbs z → b ≡ natAbs z → a ≡ b
-size-of z = one-answer
-
 pub span : (least greatest : ℤ) (spacing : ℕ) {a b : Lattice} → a ≡ latticeOf least greatest spacing → b ≡ latticeOf least greatest spacing → a ≡ b
 span least greatest spacing = one-answer
 
 pub locate : (l : Lattice) (spacing : ℕ) (z : ℤ) {a b : Place} → a ≡ placeOf l spacing z → b ≡ placeOf l spacing z → a ≡ b
 locate l spacing z = one-answer
+
+pub leaves-room : (at many count : ℕ) {a b : Bool} → a ≡ leb (at + many) count → b ≡ leb (at + many) count → a ≡ b
+leaves-room at many count = one-answer
 
 pub limits-of : (least greatest step kind : ℕ) {a b : Limits} → a ≡ limits least greatest step kind → b ≡ limits least greatest step kind → a ≡ b
 limits-of least greatest step kind = one-answer
@@ -126,6 +136,9 @@ judge-whole h = one-answer
 
 pub check-record-a : (block : List ℕ) {a b : Checked} → a ≡ recordA block → b ≡ recordA block → a ≡ b
 check-record-a block = one-answer
+
+pub blank-from : (block : List ℕ) (from : ℕ) {a b : Bool} → a ≡ every isBlank (drop from block) → b ≡ every isBlank (drop from block) → a ≡ b
+blank-from block from = one-answer
 
 pub read-head : (number : ℕ) (block : List ℕ) {a b : Headed} → a ≡ recordB number block → b ≡ recordB number block → a ≡ b
 read-head number block = one-answer

@@ -8,9 +8,10 @@ use borrow.Author.Tests.{ltb-true, ltb-false, le-ltb, eq-eqb, ne-eqb}
 use lib.IntN.{ℤ, pos, negsuc}
 use lib.ListN.{take, drop}
 use lib.Signed.{ltZ}
+use Rattle.laws.specs.Sign.{isZero}
 use Rattle.laws.proofs.Tests.{clash}
 use Rattle.sheet.specs.RecordA.{stretch}
-use Rattle.profile.specs.RecordC.{isNegative, isZero}
+use Rattle.profile.specs.RecordC.{isNegative}
 
 pub cut-out : (width byte : ℕ) (block : List ℕ)
     → take (byte - 1 + width - (byte - 1)) (drop (byte - 1) block) ≡ stretch byte width block

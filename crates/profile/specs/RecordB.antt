@@ -1,7 +1,7 @@
 -- Document 01, "Record B (one profile)": the fields at the head of a profile's first block.
-use mathlib.Core.Bool.{Bool, true, false, cond}
+use mathlib.Core.Bool.{Bool, cond}
 use mathlib.Core.List.{List, [], _∷_}
-use Prim.Native.Nat.{ℕ, _+_, _*_, _%_, _/_, _^_}
+use Prim.Native.Nat.{ℕ, _*_, _%_, _/_, _^_}
 use lib.IntN.{ℤ, pos, negsuc, natAbs, negℤ}
 use lib.Dec.{leb, eqb}
 use lib.ListN.{length}
@@ -9,7 +9,6 @@ use Rattle.laws.specs.Sign.{_and_}
 use Rattle.number.specs.declared.Reading.{Reading}
 use Rattle.number.specs.Integer.{integer, refused}
 use Rattle.number.specs.Real.{real}
-use Rattle.sheet.specs.Lattice.{notNegative}
 use Rattle.sheet.specs.RecordA.{stretch, limits, ranged, wholeAt, realAt, fault}
 use Rattle.sheet.specs.declared.record_a.Fault.{Fault}
 use Rattle.profile.specs.declared.record_b.Head.{Head}

@@ -1,11 +1,11 @@
 -- Document 01, "Record C, only with accuracy 1, is one block of ten six-byte integers (002), then blanks".
 use mathlib.Core.Bool.{Bool, true, false, cond, not}
 use mathlib.Core.List.{List, [], _∷_, _++_}
-use Prim.Native.Nat.{ℕ, zero, suc, _+_}
+use Prim.Native.Nat.{ℕ, _+_}
 use lib.IntN.{ℤ, pos, negsuc}
-use lib.Dec.{leb, eqb}
+use lib.Dec.{eqb}
 use lib.ListN.{length, drop}
-use Rattle.laws.specs.Sign.{_and_}
+use Rattle.laws.specs.Sign.{isZero, _and_}
 use Rattle.number.specs.declared.Reading.{Reading}
 use Rattle.number.specs.Bytes.{isBlank}
 use Rattle.number.specs.Grammar.{every}
@@ -21,10 +21,6 @@ codeField byte block = at byte (ranged (limits 0 1 1 9) (integer (stretch byte 6
 abbrev pub isNegative : ℤ → Bool
 isNegative (pos n) = false
 isNegative (negsuc n) = true
-
-abbrev pub isZero : ℤ → Bool
-isZero (pos n) = eqb n 0
-isZero (negsuc n) = false
 
 -- "the rest not negative (7), then zero under code 0 (9)"
 abbrev pub errorReading : ℕ → Reading → Reading

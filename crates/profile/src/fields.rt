@@ -4,28 +4,14 @@ use sheet::record_a;
 use sheet::record_a::Fault;
 use sheet::record_a::Limits;
 ghost use mathlib.Core.Path.{_≡_};
-ghost use lib.ListN.{drop};
-ghost use Rattle.number.specs.Bytes.{isBlank};
-ghost use Rattle.number.specs.Grammar.{every};
 ghost use Rattle.number.specs.Integer.{integer};
-ghost use Rattle.sheet.specs.RecordA.{stretch, ranged, fault, limits};
+ghost use Rattle.sheet.specs.RecordA.{stretch, ranged, fault};
 ghost use Rattle.profile.specs.Steps.{Inside, faultOr};
 
 pub(crate) fn no_fault() -> Fault
     ensures { λ f. ⌜ f ≡ fault 0 0 ⌝ }
 {
     Fault { kind: 0, byte: 0 }
-}
-
-pub(crate) fn limits_of(least: u64, greatest: u64, kind: u32) -> Limits
-    ensures { λ l. ⌜ l ≡ limits least greatest 1 kind ⌝ }
-{
-    Limits {
-        least,
-        greatest,
-        step: 1,
-        kind,
-    }
 }
 
 // The fault of a field, or the first of those behind it.
@@ -59,18 +45,4 @@ pub(crate) fn judge_at(l: Limits, block: &[u8], byte: u32, rest: Fault) -> Fault
     ensures { λ f. ⌜ f ≡ faultOr (ranged l (integer (stretch byte 6 (now (block .entry))))) byte rest ⌝ }
 {
     judge(l, integer_at(block, byte), byte, rest)
-}
-
-// Whether all that remains of a block is blank.
-pub(crate) fn blank_from(block: &[u8], from: usize) -> bool
-    ensures { λ r. ⌜ r ≡ every isBlank (drop from (now (block .entry))) ⌝ }
-{
-    let mut i = from;
-    while i < block.len() {
-        if block[i] != 32 {
-            return false;
-        }
-        i += 1;
-    }
-    true
 }

@@ -96,10 +96,10 @@ fn counts_fault(number: u64, block: &[u8], posts: Reading, rest: Fault) -> Fault
     requires { ⌜ length (now block) ≡ 1024 ⌝ }
     ensures { λ f. ⌜ f ≡ countsFault number (now (block .entry)) posts rest ⌝ }
 {
-    let one = fields::limits_of(1, 1, 9);
+    let one = record_a::limits_of(1, 1, 1, 9);
     let last = fields::judge_at(one, block, 19, rest);
-    let many = fields::judge(fields::limits_of(1, 2048, 7), posts, 13, last);
-    let numbered = fields::judge_at(fields::limits_of(number, number, 9), block, 7, many);
+    let many = fields::judge(record_a::limits_of(1, 2048, 1, 7), posts, 13, last);
+    let numbered = fields::judge_at(record_a::limits_of(number, number, 1, 9), block, 7, many);
     fields::judge_at(one, block, 1, numbered)
 }
 

@@ -50,7 +50,7 @@ fn half_fault(block: &[u8], byte: u32, rest: Fault) -> Fault
     let third = error_at(code, block, byte + 18, count);
     let second = error_at(code, block, byte + 12, third);
     let first = error_at(code, block, byte + 6, second);
-    fields::judge(fields::limits_of(0, 1, 9), r, byte, first)
+    fields::judge(record_a::limits_of(0, 1, 1, 9), r, byte, first)
 }
 
 pub fn check_record_c(block: &[u8]) -> Fault
@@ -64,7 +64,7 @@ pub fn check_record_c(block: &[u8]) -> Fault
     if f.kind != 0 {
         return f;
     }
-    if fields::blank_from(block, 60) {
+    if crate::blank_from(block, 60) {
         return fields::no_fault();
     }
     Fault { kind: 5, byte: 61 }

@@ -2,7 +2,6 @@
 use libc::STDOUT_FILENO;
 use load::Answer;
 use session::Session;
-use sheet::lattice;
 
 fn write_word(word: &[u8]) {
     io::write_all(STDOUT_FILENO, word);
@@ -16,7 +15,7 @@ fn write_signed(z: i64) {
     if z < 0 {
         write_word(b"-");
     }
-    write_number(lattice::size_of(z));
+    write_number(number::size_of(z));
 }
 
 pub(crate) fn write_bad() {

@@ -1,5 +1,4 @@
 // What the writer has to know of the grid before it writes a byte: document 01, "Writing".
-use sheet::lattice;
 use sheet::record_a;
 ghost use mathlib.Core.Path.{_≡_};
 ghost use Prim.Native.Nat.{_+_, _*_, _≤_, _<_};
@@ -50,7 +49,7 @@ pub(crate) fn can_send(z: u64, cell: i32) -> bool
     if is_void(cell) {
         return true;
     }
-    let size = lattice::size_of(cell as i64);
+    let size = number::size_of(cell as i64);
     if size % z != 0 {
         return false;
     }
@@ -84,7 +83,7 @@ pub(crate) fn post_of(z: u64, cell: i32) -> i64
     if is_void(cell) {
         return -32767;
     }
-    let n = (lattice::size_of(cell as i64) / z) as i64;
+    let n = (number::size_of(cell as i64) / z) as i64;
     if cell < 0 {
         return -n;
     }

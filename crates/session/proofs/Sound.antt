@@ -7,6 +7,7 @@ use native.Mathlib.Omega.{arith}
 use borrow.Author.Tests.{eqb-true}
 use lib.Dec.{eqb}
 use lib.IntN.{ℤ, pos, negsuc}
+use Rattle.laws.specs.Sign.{isZero}
 use Rattle.laws.proofs.Tests.{clash}
 use Rattle.sheet.specs.declared.record_a.Corner.{Corner}
 use Rattle.sheet.specs.declared.record_a.Header.{Header}
@@ -17,7 +18,6 @@ use Rattle.session.specs.Session.{
   freshCorner,
   freshHeader,
   noProfile,
-  isZero,
   zeroCorner,
   zeroHeader,
   zeroProfile,

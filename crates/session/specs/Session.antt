@@ -1,12 +1,12 @@
 -- Document 01, "What a delivery answers": the session, the fresh one, and when a session is sound.
-use mathlib.Core.Bool.{Bool, true, false, cond, not}
+use mathlib.Core.Bool.{Bool, true, cond, not}
 use Prim.Native.Nat.{ℕ, _+_, _*_, _-_, _/_, _%_, _^_}
-use lib.IntN.{ℤ, pos, negsuc, natAbs}
+use lib.IntN.{ℤ, pos, natAbs}
 use lib.Dec.{leb, ltb, eqb}
 use lib.Signed.{leZ}
-use Rattle.laws.specs.Sign.{_and_}
+use Rattle.laws.specs.Sign.{isZero, _and_}
 use Rattle.laws.specs.Digits.{short}
-use Rattle.sheet.specs.RecordA.{limits, zoneLimits, groundLimits, heightLimits, inRange, spacing, columnsOf, rowsOf, wholeFault, oneTo2048, billion}
+use Rattle.sheet.specs.RecordA.{limits, zoneLimits, groundLimits, heightLimits, inRange, columnsOf, rowsOf, wholeFault, billion}
 use Rattle.sheet.specs.declared.record_a.Corner.{Corner}
 use Rattle.sheet.specs.declared.record_a.Header.{Header}
 use Rattle.session.specs.declared.Profile.{Profile}
@@ -43,11 +43,12 @@ abbrev pub noProfile : Profile
 noProfile =
     record { posts = 0; row = 0; datum = pos 0; least = pos 0; greatest = pos 0; read = 0; filled = 0; low = pos 0; high = pos 0 }
 
-abbrev pub fresh : Session
-fresh =
+-- so many blocks taken, and nothing read of a profile
+abbrev pub unread : Header → ℕ → Session
+unread h taken =
     record {
-      header = freshHeader;
-      taken = 0;
+      header = h;
+      taken = taken;
       closed = 0;
       posts = 0;
       filled = 0;
@@ -58,9 +59,8 @@ fresh =
       profile = noProfile;
     }
 
-abbrev pub isZero : ℤ → Bool
-isZero (pos n) = eqb n 0
-isZero (negsuc n) = false
+abbrev pub fresh : Session
+fresh = unread freshHeader 0
 
 abbrev pub zeroCorner : Corner → Bool
 zeroCorner c = isZero (c .x) and isZero (c .y)

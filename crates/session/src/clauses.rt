@@ -38,7 +38,7 @@ fn is_short(n: u64) -> bool
 fn is_real_number(z: i64) -> bool
     ensures { λ r. ⌜ r ≡ isRealNumber z ⌝ }
 {
-    let n = lattice::size_of(z);
+    let n = number::size_of(z);
     both(n < 1000000000000000000, is_short(n))
 }
 
@@ -120,16 +120,6 @@ fn is_busy(s: Session) -> bool
     p.posts != 0
 }
 
-// `many` from `at` on are at most `count`. The sum may not fit a u64.
-fn leaves_room(at: u64, many: u64, count: u64) -> bool
-    ensures { λ r. ⌜ r ≡ leb (at + many) count ⌝ }
-{
-    if count < many {
-        return false;
-    }
-    at <= count - many
-}
-
 // 146 + 170k, below the posts stated.
 fn read_obeys(p: Profile) -> bool
     ensures { λ r. ⌜ r ≡ readObeys p ⌝ }
@@ -144,7 +134,7 @@ fn profile_obeys(h: Header, p: Profile) -> bool
     ensures { λ r. ⌜ r ≡ profileObeys h p ⌝ }
 {
     let rows = record_a::row_lattice(h);
-    let room = leaves_room(p.row, p.posts, rows.count);
+    let room = lattice::leaves_room(p.row, p.posts, rows.count);
     let rest = all3(
         is_real_number(p.least),
         is_real_number(p.greatest),
@@ -153,7 +143,7 @@ fn profile_obeys(h: Header, p: Profile) -> bool
     all4(
         p.posts <= 2048,
         room,
-        lattice::size_of(p.datum) <= 1000000,
+        number::size_of(p.datum) <= 1000000,
         rest,
     )
 }
@@ -184,7 +174,7 @@ fn open_blocks(s: Session) -> u64
 fn is_extreme(z: i64) -> bool
     ensures { λ r. ⌜ r ≡ leb (natAbs z) 4276700 ⌝ }
 {
-    lattice::size_of(z) <= 4276700
+    number::size_of(z) <= 4276700
 }
 
 fn extremes_obey(filled: u64, low: i64, high: i64) -> bool
@@ -212,7 +202,10 @@ fn column_obeys(s: Session) -> bool
     let h = s.header;
     let columns = record_a::column_lattice(h);
     let begun = either(is_busy(s), 0 < s.closed);
-    implied(begun, leaves_room(s.column, h.profiles, columns.count))
+    implied(
+        begun,
+        lattice::leaves_room(s.column, h.profiles, columns.count),
+    )
 }
 
 fn finish_obeys(s: Session) -> bool

@@ -4,16 +4,16 @@ use crate::Session;
 use crate::joined::all3;
 use crate::joined::all4;
 use crate::joined::both;
-use sheet::lattice;
 use sheet::record_a::Corner;
 use sheet::record_a::Header;
 ghost use mathlib.Core.Path.{_≡_};
-ghost use Rattle.session.specs.Session.{isZero, zeroCorner, zeroHeader, zeroProfile, isFresh};
+ghost use Rattle.laws.specs.Sign.{isZero};
+ghost use Rattle.session.specs.Session.{zeroCorner, zeroHeader, zeroProfile, isFresh};
 
 fn is_zero(z: i64) -> bool
     ensures { λ r. ⌜ r ≡ isZero z ⌝ }
 {
-    lattice::size_of(z) == 0
+    number::size_of(z) == 0
 }
 
 fn zero_corner(c: Corner) -> bool

@@ -9,18 +9,7 @@ use lib.IntN.{ℤ, pos, negsuc, natAbs, _-ℤ_}
 use lib.Signed.{ltZ}
 use Rattle.laws.specs.Sign.{_and_}
 use Rattle.laws.proofs.Tests.{clash, and-first, and-second}
-use Rattle.sheet.specs.Lattice.{
-  firstMultiple,
-  lastMultiple,
-  multipleOf,
-  notNegative,
-  manyFrom,
-  isReal,
-  emptyLattice,
-  latticeOf,
-  within,
-  placeOf,
-}
+use Rattle.sheet.specs.Lattice.{firstMultiple, lastMultiple, multipleOf, manyFrom, isReal, emptyLattice, latticeOf, within, placeOf}
 use Rattle.sheet.specs.declared.lattice.Lattice.{Lattice}
 use Rattle.sheet.specs.declared.lattice.Place.the-variants.{On, Off}
 
@@ -30,15 +19,7 @@ real-small z = ltb-true (natAbs z) (10 ^ 18)
 pub small-real : (z : ℤ) → natAbs z < 10 ^ 18 → isReal z ≡ true
 small-real z = lt-ltb (natAbs z) (10 ^ 18)
 
--- a difference by its sign: how many it counts, and the place that it gives
-pub cut-minus : (z : ℤ) → ltZ z (pos 0) ≡ true → notNegative z ≡ 0
-cut-minus (pos n) t = omega (arith, ltb-true n 0 t)
-cut-minus (negsuc n) t = refl
-
-pub cut-plus : (z : ℤ) → ltZ z (pos 0) ≡ false → notNegative z ≡ natAbs z
-cut-plus (pos n) t = refl
-cut-plus (negsuc n) t = clash t
-
+-- the place that a difference gives, by its sign
 pub within-minus : (z : ℤ) (count : ℕ) → ltZ z (pos 0) ≡ true → within z count ≡ Off
 within-minus (pos n) count t = absurd (omega (arith, ltb-true n 0 t))
 within-minus (negsuc n) count t = refl

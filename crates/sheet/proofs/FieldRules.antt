@@ -10,7 +10,7 @@ use lib.ListN.{length, length-take, length-drop}
 use Rattle.laws.specs.Digits.{short}
 use Rattle.laws.specs.Sign.{_and_}
 use Rattle.laws.proofs.Tables.{all}
-use Rattle.laws.proofs.Tests.{clash, and-first, and-second}
+use Rattle.laws.proofs.Tests.{clash, either, and-first, and-second}
 use Rattle.number.specs.declared.Reading.{Reading}
 use Rattle.number.specs.Grammar.{every}
 use Rattle.number.specs.Integer.{integer, integerForm, unsignedPart}
@@ -36,6 +36,7 @@ use Rattle.sheet.specs.RecordA.Rule.{words, form, free, whole, zones, gr
 use Rattle.sheet.specs.RulesA.{Clause, clause, spared, integerClauses, realClauses, limitClause, clausesOf}
 use Rattle.sheet.specs.declared.record_a.Fault.{Fault}
 use Rattle.sheet.specs.declared.record_a.Limits.{Limits}
+use Rattle.sheet.proofs.HeaderA.{HasKind, zone-kind, ground-kind, height-kind}
 
 -- the fault of the first broken rule, and f where all are kept
 abbrev pub firstOf : List ℕ → List Clause → Fault → Fault
@@ -58,11 +59,6 @@ among (k ∷ ks) n = cond (eqb n k) true (among ks n)
 abbrev OneOf : List ℕ → Reading → Type 0
 OneOf ks r = among ks (r .kind) ≡ true
 
--- what holds of both answers of a test holds of its answer
-either : {X : Type 0} (P : X → Type 0) (t : Bool) {x y : X} → P x → P y → P (cond t x y)
-either P true p q = p
-either P false p q = q
-
 abbrev integerKinds : List ℕ
 integerKinds = 6 ∷ []
 
@@ -84,19 +80,6 @@ unfolding real
 real-kinds s f =
     rw (within-good 24 s _ (f .0) (f .1))
     (either (OneOf (0 ∷ realKinds)) (realForm (unsignedPart s)) (billionths-kinds _ _ _ _) refl)
-
--- limits that go by another field have one kind
-abbrev HasKind : ℕ → Limits → Type 0
-HasKind k l = l .kind ≡ k
-
-zone-kind : (system : ℕ) → HasKind 9 (zoneLimits system)
-zone-kind system = either (HasKind 9) (eqb system 0) refl (either (HasKind 9) (eqb system 1) refl refl)
-
-ground-kind : (system : ℕ) → HasKind 9 (groundLimits system)
-ground-kind system = either (HasKind 9) (eqb system 0) refl (either (HasKind 9) (eqb system 1) refl refl)
-
-height-kind : (vertical : ℕ) → HasKind 7 (heightLimits vertical)
-height-kind vertical = either (HasKind 7) (eqb vertical 1) refl refl
 
 -- ---- the rules of one field
 module _ (block : List ℕ) (first : ℕ) where

@@ -1,5 +1,5 @@
 -- Where no field is at fault, the header from the walk's values is the header of the block.
-use mathlib.Core.Bool.{Bool, true, false, cond}
+use mathlib.Core.Bool.{Bool, true, false}
 use mathlib.Core.List.{List, [], _∷_}
 use mathlib.Core.Path.{_≡_, refl, sym, _∙_, ap}
 use Prim.Native.Nat.{ℕ, zero, suc, _*_, _^_, _<_}
@@ -9,32 +9,14 @@ use borrow.Author.Tests.{eqb-true, eqb-false, eq-eqb, ne-eqb}
 use lib.Dec.{eqb, lit<}
 use lib.IntN.{ℤ, pos}
 use lib.ListN.{length, getD}
+use Rattle.laws.proofs.Tests.{either}
 use Rattle.number.specs.declared.Reading.{Reading}
-use Rattle.number.specs.Integer.{integer, refused}
+use Rattle.number.specs.Integer.{integer}
 use Rattle.number.specs.Real.{real}
 use Rattle.sheet.specs.Lattice.{notNegative}
-use Rattle.sheet.specs.RecordA.{
-  Row,
-  row,
-  fields,
-  judgeRow,
-  firstFault,
-  fault,
-  ranged,
-  inLimits,
-  limits,
-  zoneLimits,
-  groundLimits,
-  heightLimits,
-  headerOf,
-  wholeFault,
-  recordA,
-  stretch,
-  wholeAt,
-  realAt,
-}
+use Rattle.sheet.specs.RecordA.{Row, row, fields, judgeRow, firstFault, ranged, inLimits, limits, zoneLimits, groundLimits, heightLimits, headerOf, wholeFault, recordA, stretch, wholeAt}
 use Rattle.sheet.specs.RecordA.Rule.{words}
-use Rattle.sheet.specs.RecordASteps.{rowAt, headerFrom, cornerFrom}
+use Rattle.sheet.specs.RecordASteps.{rowAt, headerFrom}
 use Rattle.sheet.specs.declared.record_a.Checked.the-variants.{Sheet, Refused}
 use Rattle.sheet.specs.declared.record_a.Fault.{Fault}
 use Rattle.sheet.specs.declared.record_a.Limits.{Limits}
@@ -65,28 +47,18 @@ ranged-value l r n z = go (eqb (r .kind) 0) refl (inLimits l (r .value)) refl
     go true e false f = absurd (n (rw (e, f) at z))
     go false e c f = rw e
 
-zone-kind : (s : ℕ) → zoneLimits s .kind ≡ 0 → ⊥
-zone-kind s = go (eqb s 0) refl (eqb s 1) refl
-  where
-    go : (b : Bool) → eqb s 0 ≡ b → (c : Bool) → eqb s 1 ≡ c → zoneLimits s .kind ≡ 0 → ⊥
-    go true e c f z = let q : _≡_ {A = ℕ} 9 0 = rw e at z in omega arith
-    go false e true f z = let q : _≡_ {A = ℕ} 9 0 = rw (e, f) at z in omega arith
-    go false e false f z = let q : _≡_ {A = ℕ} 9 0 = rw (e, f) at z in omega arith
+-- limits that go by another field have one kind
+abbrev pub HasKind : ℕ → Limits → Type 0
+HasKind k l = l .kind ≡ k
 
-ground-kind : (s : ℕ) → groundLimits s .kind ≡ 0 → ⊥
-ground-kind s = go (eqb s 0) refl (eqb s 1) refl
-  where
-    go : (b : Bool) → eqb s 0 ≡ b → (c : Bool) → eqb s 1 ≡ c → groundLimits s .kind ≡ 0 → ⊥
-    go true e c f z = let q : _≡_ {A = ℕ} 9 0 = rw e at z in omega arith
-    go false e true f z = let q : _≡_ {A = ℕ} 9 0 = rw (e, f) at z in omega arith
-    go false e false f z = let q : _≡_ {A = ℕ} 9 0 = rw (e, f) at z in omega arith
+pub zone-kind : (system : ℕ) → HasKind 9 (zoneLimits system)
+zone-kind system = either (HasKind 9) (eqb system 0) refl (either (HasKind 9) (eqb system 1) refl refl)
 
-height-kind : (v : ℕ) → heightLimits v .kind ≡ 0 → ⊥
-height-kind v = go (eqb v 1) refl
-  where
-    go : (b : Bool) → eqb v 1 ≡ b → heightLimits v .kind ≡ 0 → ⊥
-    go true e z = let q : _≡_ {A = ℕ} 7 0 = rw e at z in omega arith
-    go false e z = let q : _≡_ {A = ℕ} 7 0 = rw e at z in omega arith
+pub ground-kind : (system : ℕ) → HasKind 9 (groundLimits system)
+ground-kind system = either (HasKind 9) (eqb system 0) refl (either (HasKind 9) (eqb system 1) refl refl)
+
+pub height-kind : (vertical : ℕ) → HasKind 7 (heightLimits vertical)
+height-kind vertical = either (HasKind 7) (eqb vertical 1) refl refl
 
 module _ (block : List ℕ) (values : List ℤ) (z : firstFault block fields .kind ≡ 0)
     (read : (i : ℕ) → i < 41 → getD values i (pos 0) ≡ judgeRow block (rowAt i) .value) where
@@ -109,9 +81,9 @@ module _ (block : List ℕ) (values : List ℤ) (z : firstFault block fields .ki
       record {
         level = number-is 1 (lit< tt) (limits 1 3 1 9) (integer (stretch 145 6 block)) refl (λ q. omega arith) j;
         system = number-is 3 (lit< tt) (limits 0 2 1 9) (integer (stretch 157 6 block)) refl (λ q. omega arith) j;
-        zone = number-is 4 (lit< tt) (zoneLimits (wholeAt 157 block)) (integer (stretch 163 6 block)) refl (zone-kind (wholeAt 157 block)) j;
+        zone = number-is 4 (lit< tt) (zoneLimits (wholeAt 157 block)) (integer (stretch 163 6 block)) refl (λ q. omega (arith, zone-kind (wholeAt 157 block))) j;
         ground =
-            number-is 20 (lit< tt) (groundLimits (wholeAt 157 block)) (integer (stretch 529 6 block)) refl (ground-kind (wholeAt 157 block)) j;
+            number-is 20 (lit< tt) (groundLimits (wholeAt 157 block)) (integer (stretch 529 6 block)) refl (λ q. omega (arith, ground-kind (wholeAt 157 block))) j;
         vertical = number-is 21 (lit< tt) (limits 1 2 1 9) (integer (stretch 535 6 block)) refl (λ q. omega arith) j;
         sw = record { x = read 23 (lit< tt) j; y = read 24 (lit< tt) j };
         nw = record { x = read 25 (lit< tt) j; y = read 26 (lit< tt) j };
@@ -122,7 +94,7 @@ module _ (block : List ℕ) (values : List ℤ) (z : firstFault block fields .ki
         accuracy = number-is 34 (lit< tt) (limits 0 1 1 9) (integer (stretch 811 6 block)) refl (λ q. omega arith) j;
         xstep = number-is 35 (lit< tt) (limits (10 ^ 9) (9999 * 10 ^ 9) (10 ^ 9) 7) (real (stretch 817 12 block)) refl (λ q. omega arith) j;
         ystep = number-is 36 (lit< tt) (limits (10 ^ 9) (9999 * 10 ^ 9) (10 ^ 9) 7) (real (stretch 829 12 block)) refl (λ q. omega arith) j;
-        zstep = number-is 37 (lit< tt) (heightLimits (wholeAt 535 block)) (real (stretch 841 12 block)) refl (height-kind (wholeAt 535 block)) j;
+        zstep = number-is 37 (lit< tt) (heightLimits (wholeAt 535 block)) (real (stretch 841 12 block)) refl (λ q. omega (arith, height-kind (wholeAt 535 block))) j;
         profiles = number-is 39 (lit< tt) (limits 1 2048 1 7) (integer (stretch 859 6 block)) refl (λ q. omega arith) j;
       }
 

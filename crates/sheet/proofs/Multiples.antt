@@ -18,8 +18,7 @@ use native.Mathlib.Omega.{arith}
 use borrow.Author.Tests.{le-ltb, le-leb}
 use lib.IntN.{ℤ, pos, negsuc, natAbs, _*ℤ_}
 use lib.Signed.{leZ}
-use Rattle.laws.specs.Sign.{signed}
-use Rattle.laws.proofs.Integers.{above, below, parts-same, minus-parts, multiple-parts, size-minus}
+use Rattle.laws.proofs.Integers.{above, below, parts-same, minus-parts, multiple-parts, signed-size}
 use Rattle.sheet.specs.Lattice.{upward, firstMultiple, lastMultiple, multipleOf, isReal}
 use Rattle.sheet.specs.Steps.{isMinus, rounded, inSpacings}
 use Rattle.sheet.proofs.Cases.{real-small, small-real}
@@ -36,10 +35,6 @@ last-is (negsuc v) s = refl
 pub multiple-is : (v : ℤ) (s : ℕ) → multipleOf v s ≡ inSpacings v s false
 multiple-is (pos v) s = rw (le-ltb v 0 zero-le)
 multiple-is (negsuc v) s = refl
-
-signed-size : (minus : Bool) (n : ℕ) → natAbs (signed minus n) ≡ n
-signed-size true n = size-minus (pos n)
-signed-size false n = refl
 
 module _ (s : ℕ) (p : 0 < s) where
   -- rounded up: the least number of spacings that reaches v

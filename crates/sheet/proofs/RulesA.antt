@@ -2,7 +2,7 @@
 use mathlib.Core.Bool.{Bool, true, false, cond}
 use mathlib.Core.List.{List, [], _∷_}
 use mathlib.Core.Logic.{_↔_, _⊎_, inl, inr}
-use mathlib.Core.Path.{_≡_, refl, sym, _∙_}
+use mathlib.Core.Path.{_≡_, refl, sym, _∙_, ap}
 use Prim.Native.Nat.{ℕ, _+_, _-_}
 use native.Mathlib.Omega.{arith}
 use borrow.Author.Tests.{leb-true, eqb-true, eqb-false, eq-eqb, ne-eqb, not-true}
@@ -151,3 +151,18 @@ module _ (block : List ℕ) where
       let k = sheet-keeps e in
       let d = verdict-kept block (k .0) (k .1) in
       cc
+
+  -- so neither a field nor a rule of the whole record is at fault
+  module _ {h : Header} (e : recordA block ≡ Sheet h) where
+    sheet-faults : cond (eqb (firstFault block fields .kind) 0) (wholeFault (headerOf block)) (firstFault block fields) .kind ≡ 0
+    sheet-faults =
+        let k = sheet-keeps e in
+        rw (eq-eqb (length block) 1024 (k .0))
+        at (ap (λ (f : Fault). f .kind) (fault-is block (k .0) ∙ keeps-first (k .1) (fault 0 0)))
+
+    pub sheet-fine : firstFault block fields .kind ≡ 0
+    sheet-fine =
+        by-test (eqb (firstFault block fields .kind) 0) (eqb-true (firstFault block fields .kind) 0) (λ t. rw t at sheet-faults)
+
+    pub sheet-whole : wholeFault h .kind ≡ 0
+    sheet-whole = rw (sheet-header e) (rw (eq-eqb (firstFault block fields .kind) 0 sheet-fine) at sheet-faults)

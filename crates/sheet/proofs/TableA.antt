@@ -1,13 +1,13 @@
 -- The table of record A as the code walks it: each row stands inside the block, and a row judged by its numbers is judged by its rule.
-use mathlib.Core.Bool.{Bool, true, false, cond}
-use mathlib.Core.List.{List, [], _∷_}
-use mathlib.Core.Path.{_≡_, refl, sym, _∙_, ap, subst}
-use Prim.Native.Nat.{ℕ, suc, _+_, _-_, _≤_, _<_}
+use mathlib.Core.Bool.{Bool, true, false}
+use mathlib.Core.List.{List, _∷_}
+use mathlib.Core.Path.{_≡_, refl, sym, _∙_, ap}
+use Prim.Native.Nat.{ℕ, _+_, _-_, _≤_, _<_}
 use native.Mathlib.Decide.{ℕ-discrete}
 use native.Mathlib.Numerals.{add-one}
 use native.Mathlib.Omega.{arith}
 use borrow.Author.Tests.{eq-eqb, ne-eqb}
-use lib.Dec.{T, leb, eqb, leb→le}
+use lib.Dec.{leb, eqb, leb→le}
 use lib.IntN.{ℤ, pos}
 use lib.ListN.{length, take, drop, getD, set, length-set}
 use lib.Seq.{drop-cons, getD-set-same, getD-set-other}
@@ -18,7 +18,6 @@ use Rattle.sheet.specs.RecordA.{Rule, Row, row, fields, judge, judgeRow,
 use Rattle.sheet.specs.RecordA.Rule.{words, form, free, whole, zones, grounds, stepped, heights}
 use Rattle.sheet.specs.RecordASteps.{rowAt, codeOf, byOf, fixedOf, limitsBy, judgeBy, Begun}
 use Rattle.sheet.specs.declared.record_a.Limits.{Limits}
-use Rattle.sheet.specs.declared.record_a.Fault.{Fault}
 
 -- every row stands inside the 1,024 bytes
 inside : Row → Bool

@@ -1,6 +1,6 @@
 -- Document 01, "Record A", the lattice: places are whole numbers of billionths, a multiple is named by how many spacings it is.
-use mathlib.Core.Bool.{Bool, true, false, cond}
-use Prim.Native.Nat.{ℕ, zero, suc, _+_, _-_, _/_, _%_, _^_}
+use mathlib.Core.Bool.{Bool, cond}
+use Prim.Native.Nat.{ℕ, suc, _+_, _-_, _/_, _%_, _^_}
 use lib.IntN.{ℤ, pos, negsuc, negℤ, natAbs, _+ℤ_, _-ℤ_}
 use lib.Dec.{leb, ltb, eqb}
 use Rattle.laws.specs.Sign.{_and_}

@@ -1,5 +1,5 @@
 -- Document 01, "Record A (block 0)": the table of its fields, what breaks one, the whole-record rules, and the header of a good block.
-use mathlib.Core.Bool.{Bool, true, false, cond, not}
+use mathlib.Core.Bool.{Bool, false, cond, not}
 use mathlib.Core.List.{List, [], _∷_, _++_}
 use Prim.Native.Nat.{ℕ, zero, suc, _+_, _*_, _-_, _%_, _^_}
 use lib.IntN.{ℤ, pos, negsuc}

@@ -1,8 +1,9 @@
 // The lattice of a sheet, over spacings in billionths: document 01, "Record A".
 ghost use mathlib.Core.Path.{_≡_};
 ghost use mathlib.Core.Bool.{true};
-ghost use Prim.Native.Nat.{_<_, _≤_, _^_};
-ghost use lib.IntN.{natAbs, _-ℤ_};
+ghost use Prim.Native.Nat.{_+_, _<_, _≤_, _^_};
+ghost use lib.Dec.{leb};
+ghost use lib.IntN.{_-ℤ_};
 ghost use Rattle.sheet.specs.Lattice.{isReal, emptyLattice, manyFrom, within, latticeOf, placeOf};
 ghost use Rattle.sheet.specs.Steps.{rounded, inSpacings};
 
@@ -17,21 +18,11 @@ pub enum Place {
     Off,
 }
 
-// A number without its sign. Raised by one before it is turned, so that the least i64 has a size too.
-pub fn size_of(z: i64) -> u64
-    ensures { λ r. ⌜ r ≡ natAbs z ⌝ }
-{
-    if z < 0 {
-        return (-(z + 1)) as u64 + 1;
-    }
-    z as u64
-}
-
 // Whether a real field can hold it.
 fn is_real(z: i64) -> bool
     ensures { λ r. ⌜ r ≡ isReal z ⌝ }
 {
-    size_of(z) < 1000000000000000000
+    number::size_of(z) < 1000000000000000000
 }
 
 // A size in whole spacings. The rest is tested, since the size and a large spacing may not fit a u64 together.
@@ -54,7 +45,7 @@ fn in_spacings(v: i64, spacing: u64, away: bool) -> i64
     requires { ⌜ (isReal v ≡ true) × (1 ≤ spacing) ⌝ }
     ensures { λ r. ⌜ r ≡ inSpacings v spacing away ⌝ }
 {
-    let n = round(size_of(v), spacing, away) as i64;
+    let n = round(number::size_of(v), spacing, away) as i64;
     if v < 0 {
         return -n;
     }
@@ -130,8 +121,18 @@ pub fn locate(l: Lattice, spacing: u64, z: i64) -> Place
     if spacing < 1 {
         return Place::Off;
     }
-    if size_of(z) % spacing != 0 {
+    if number::size_of(z) % spacing != 0 {
         return Place::Off;
     }
     from_first(in_spacings(z, spacing, false), first, l.count)
+}
+
+// Room for so many from a place on. The sum may not fit a u64.
+pub fn leaves_room(at: u64, many: u64, count: u64) -> bool
+    ensures { λ r. ⌜ r ≡ leb (at + many) count ⌝ }
+{
+    if count < many {
+        return false;
+    }
+    at <= count - many
 }

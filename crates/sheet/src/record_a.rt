@@ -739,6 +739,13 @@ fn greatest_of(a: i64, b: i64, c: i64, d: i64) -> i64
     greater_of(greater_of(a, b), greater_of(c, d))
 }
 
+// The lattice over one coordinate of the four corners.
+fn lattice_over(a: i64, b: i64, c: i64, d: i64, spacing: u64) -> lattice::Lattice
+    ensures { λ r. ⌜ r ≡ latticeOf (lesser (lesser a b) (lesser c d)) (greater (greater a b) (greater c d)) spacing ⌝ }
+{
+    lattice::span(least_of(a, b, c, d), greatest_of(a, b, c, d), spacing)
+}
+
 // The columns of a header's lattice, as its corners and spacing span them.
 pub fn column_lattice(h: Header) -> lattice::Lattice
     ensures { λ r. ⌜ r ≡ latticeOf (west h) (east h) (h .xstep) ⌝ }
@@ -747,9 +754,7 @@ pub fn column_lattice(h: Header) -> lattice::Lattice
     let nw = h.nw;
     let ne = h.ne;
     let se = h.se;
-    let least = least_of(sw.x, nw.x, ne.x, se.x);
-    let greatest = greatest_of(sw.x, nw.x, ne.x, se.x);
-    lattice::span(least, greatest, h.xstep)
+    lattice_over(sw.x, nw.x, ne.x, se.x, h.xstep)
 }
 
 pub fn row_lattice(h: Header) -> lattice::Lattice
@@ -759,9 +764,7 @@ pub fn row_lattice(h: Header) -> lattice::Lattice
     let nw = h.nw;
     let ne = h.ne;
     let se = h.se;
-    let least = least_of(sw.y, nw.y, ne.y, se.y);
-    let greatest = greatest_of(sw.y, nw.y, ne.y, se.y);
-    lattice::span(least, greatest, h.ystep)
+    lattice_over(sw.y, nw.y, ne.y, se.y, h.ystep)
 }
 
 fn is_less(a: i64, b: i64) -> bool

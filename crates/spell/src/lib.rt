@@ -10,28 +10,6 @@ ghost use Rattle.laws.specs.Digits.{places, short};
 ghost use Rattle.spell.specs.Spell.{spell, justified, minus, count, whole, leading, powerText, decimal, integerText, integerFits, realText, realFits};
 ghost use Rattle.spell.specs.Pieces.{Puts};
 
-const TENS: [u64; 19] = [
-    1,
-    10,
-    100,
-    1000,
-    10000,
-    100000,
-    1000000,
-    10000000,
-    100000000,
-    1000000000,
-    10000000000,
-    100000000000,
-    1000000000000,
-    10000000000000,
-    100000000000000,
-    1000000000000000,
-    10000000000000000,
-    100000000000000000,
-    1000000000000000000,
-];
-
 // Magnitudes of 10 ^ 9 and more are written by no real: here in billionths.
 const LIMIT: u64 = 1000000000000000000;
 
@@ -49,23 +27,6 @@ const LETTER_D: u8 = 68;
 
 const LETTER_E: u8 = 69;
 
-fn ten_to(k: usize) -> u64
-    requires { ⌜ k < 19 ⌝ }
-    ensures { λ r. ⌜ r ≡ 10 ^ k ⌝ }
-{
-    TENS[k]
-}
-
-// A number without its sign. Raised by one before it is turned, so that the least i64 has a size too.
-fn size_of(z: i64) -> u64
-    ensures { λ r. ⌜ r ≡ natAbs z ⌝ }
-{
-    if z < 0 {
-        return (-(z + 1)) as u64 + 1;
-    }
-    z as u64
-}
-
 // How many digits a number has, at most k.
 fn places_of(k: usize, n: u64) -> usize
     requires { ⌜ k ≤ 19 ⌝ }
@@ -73,7 +34,7 @@ fn places_of(k: usize, n: u64) -> usize
 {
     let mut i = k;
     while 0 < i {
-        if ten_to(i - 1) <= n {
+        if number::ten_to(i - 1) <= n {
             return i;
         }
         i -= 1;
@@ -119,7 +80,7 @@ fn put_digits(text: &mut [u8], at: usize, k: usize, n: u64) -> usize
     let mut rest = n;
     while 0 < left {
         left -= 1;
-        let power = ten_to(left);
+        let power = number::ten_to(left);
         text[end] = ZERO + (rest / power) as u8;
         rest = rest % power;
         end += 1;
@@ -160,7 +121,7 @@ fn put_whole(text: &mut [u8], value: i64) -> usize
     requires { ⌜ 20 ≤ length (now text) ⌝ }
     ensures { λ r. ⌜ Puts (now (text .entry)) 0 (whole value) (now (text .exit)) r ⌝ }
 {
-    let size = size_of(value);
+    let size = number::size_of(value);
     let first = put_minus(text, value);
     put_digits(text, first, count_of(1, 19, size), size)
 }
@@ -183,7 +144,7 @@ fn is_short(digits: usize, size: u64) -> bool
     if count <= digits {
         return true;
     }
-    size % ten_to(count - digits) == 0
+    size % number::ten_to(count - digits) == 0
 }
 
 // The first few of a size's digits, or all of them with zeros behind.
@@ -192,9 +153,9 @@ fn leading_of(digits: usize, count: usize, size: u64) -> u64
     ensures { λ r. ⌜ r ≡ leading digits count size ⌝ }
 {
     if count <= digits {
-        return size * ten_to(digits - count);
+        return size * number::ten_to(digits - count);
     }
-    size / ten_to(count - digits)
+    size / number::ten_to(count - digits)
 }
 
 // ""0.", 15 digits (6 in the spacings)"
@@ -226,7 +187,7 @@ fn put_decimal(text: &mut [u8], digits: usize, letter: u8, value: i64) -> usize
     requires { ⌜ (22 ≤ length (now text)) × ((digits ≤ 15) × (natAbs value < 10 ^ 18)) ⌝ }
     ensures { λ r. ⌜ Puts (now (text .entry)) 0 (decimal digits letter value) (now (text .exit)) r ⌝ }
 {
-    let size = size_of(value);
+    let size = number::size_of(value);
     let count = count_of(9, 18, size);
     let first = put_minus(text, value);
     let power = put_fraction(text, first, digits, count, size);
@@ -239,7 +200,7 @@ fn write_decimal(value: i64, digits: usize, letter: u8, field: &mut [u8]) -> boo
     ensures fits { λ r. ⌜ r ≡ realFits digits (length (now (field .entry))) value ⌝ }
     ensures written { λ _. ⌜ now (field .exit) ≡ cond (realFits digits (length (now (field .entry))) value) (realText digits letter (length (now (field .entry))) value) (now (field .entry)) ⌝ }
 {
-    let size = size_of(value);
+    let size = number::size_of(value);
     if LIMIT <= size {
         return false;
     }

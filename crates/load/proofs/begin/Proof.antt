@@ -1,44 +1,32 @@
 -- Block 0: refused as record A says; too large for the grid; or its cells made void.
 use mathlib.Core.List.{_++_}
-use mathlib.Core.Path.{_≡_, sym, _∙_, subst}
+use mathlib.Core.Path.{sym, _∙_, subst}
 use Prim.Native.Nat.{ℕ, _≤_, _<_}
 use lib.ListN.{length, drop, replicate}
-use lib.IntN.{ℤ}
 use Rattle.sheet.specs.RecordA.{recordA}
-use Rattle.sheet.specs.declared.record_a.Checked.the-variants.{Sheet}
+use Rattle.sheet.proofs.RulesA.{sheet-whole}
 use Rattle.load.specs.Posts.{void}
 use Rattle.load.proofs.Answers.{begin-refused, begin-short, begin-taken}
-use Rattle.load.proofs.Readiness.{sheet-whole, whole-sizes}
+use Rattle.load.proofs.Readiness.{whole-sizes}
 use borrow.Author.Needs.{needs}
 use Rattle.load.proofs.begin.Statement.{statement}
 use Rattle.load.proofs.begin.Tie as tie
-use Rattle.load.proofs.begin.Reads as reads
-use Rattle.load.proofs.begin.Lts as lts
-use Rattle.load.proofs.begun_session.Reads as begun-session-reads
-use Rattle.load.proofs.cells_of.Reads as cells-of-reads
-use Rattle.load.proofs.posts.void_cells.Reads as void-cells-reads
-use Rattle.sheet.proofs.record_a.check_record_a.Reads as check-record-a-reads
 
--- src/lib.rt:104:9
 check-record-a-requires : tie.Need-check-record-a-requires
 check-record-a-requires c κs = search needs
 
--- src/lib.rt:106:26
 enum-known-checked : tie.Need-enum-known-checked
 enum-known-checked c = search needs
 
--- src/lib.rt:110:24
 enum-known-checked-2 : tie.Need-enum-known-checked-2
 enum-known-checked-2 c = search needs
 
--- src/lib.rt:111:17
 cells-of-requires : tie.Need-cells-of-requires
 cells-of-requires c κs =
     let h = c .before .checked2 .given .0 .0 in
     whole-sizes h
-    (sheet-whole (c .before .before .before .before .before .args .block .now) h (sym (c .before .before .before .check-record-a .ensures) ∙ c .before .checked2 .given .1))
+    (sheet-whole (c .before .before .before .before .before .args .block .now) (sym (c .before .before .before .check-record-a .ensures) ∙ c .before .checked2 .given .1))
 
--- src/lib.rt:113:17
 returns : tie.Need-returns
 returns c =
     let o = c .before .before .before .before .before .before .before in
@@ -47,15 +35,12 @@ returns c =
     (sym (c .before .before .before .before .before .check-record-a .ensures) ∙ c .before .before .before .checked2 .given .1)
     (subst (λ (x : ℕ). length (o .args .grid .now) < x) (c .before .cells-of .ensures) (c .if1 .taken))
 
--- src/lib.rt:118:13
 void-cells-requires : tie.Need-void-cells-requires
 void-cells-requires c κs = search needs
 
--- src/lib.rt:121:26
 begun-session-requires : tie.Need-begun-session-requires
 begun-session-requires c κs = search needs
 
--- src/lib.rt:101:1
 returns-2 : tie.Need-returns-2
 returns-2 c =
     let o = c .before .before .before .before .before in
@@ -64,11 +49,9 @@ returns-2 c =
     (c .before .checked .given .0 .1 .0)
     (sym (c .before .before .before .check-record-a .ensures) ∙ c .before .checked .given .1)
 
--- src/lib.rt:101:1
 same-length : tie.Need-same-length
 same-length c = search needs
 
--- src/lib.rt:101:1
 returns-3 : tie.Need-returns-3
 returns-3 c =
     let o = c .before .before .before .before .before .before .before .before .before .before .before in

@@ -1,49 +1,35 @@
 -- One delivery: the first tests, then block 0 or a later block.
-use mathlib.Core.Path.{_≡_, refl, sym, _∙_}
-use lib.ListN.{length}
+use mathlib.Core.Path.{refl, sym, _∙_}
 use Rattle.load.proofs.Answers.{delivered}
 use Rattle.load.proofs.Gates.{gate-due}
 use borrow.Author.Needs.{needs}
 use Rattle.load.proofs.deliver.Statement.{statement}
 use Rattle.load.proofs.deliver.Tie as tie
-use Rattle.load.proofs.deliver.Reads as reads
-use Rattle.load.proofs.deliver.Lts as lts
-use Rattle.load.proofs.begin.Reads as begin-reads
-use Rattle.load.proofs.gate.Reads as gate-reads
-use Rattle.load.proofs.proceed.Reads as proceed-reads
 
--- src/lib.rt:153:9
 gate-requires : tie.Need-gate-requires
 gate-requires c κs = search needs
 
--- src/lib.rt:155:20
 enum-known-g : tie.Need-enum-known-g
 enum-known-g c = search needs
 
--- src/lib.rt:160:21
 enum-told : tie.Need-enum-told
 enum-told c = search needs
 
--- src/lib.rt:163:40
 enum-told-2 : tie.Need-enum-told-2
 enum-told-2 c = search needs
 
--- src/lib.rt:163:24
 begin-requires : tie.Need-begin-requires
 begin-requires c κs = search needs
 
--- src/lib.rt:164:50
 enum-told-3 : tie.Need-enum-told-3
 enum-told-3 c = search needs
 
--- src/lib.rt:164:24
 proceed-requires : tie.Need-proceed-requires
 proceed-requires c κs =
     let o = c .before .before .before .before .before in
     gate-due (o .args .s) (o .args .number) (o .args .block .now) (o .args .grid .now)
     (sym (c .before .before .before .gate .ensures) ∙ c .before .enum-told3 .given .1)
 
--- src/lib.rt:150:1
 returns : tie.Need-returns
 returns c =
     let o = c .before .before .before .before .before in
@@ -54,7 +40,6 @@ returns c =
     (sym (c .before .g .given .1) ∙ c .before .before .before .gate .ensures)
     (record { answer-is = refl; cells-are = refl })
 
--- src/lib.rt:150:1
 returns-2 : tie.Need-returns-2
 returns-2 c =
     let o = c .before .before .before .before in
@@ -65,11 +50,9 @@ returns-2 c =
     (sym (c .enum-told .given .1) ∙ c .before .before .gate .ensures)
     (record { answer-is = refl; cells-are = refl })
 
--- src/lib.rt:150:1
 same-length : tie.Need-same-length
 same-length c = search needs
 
--- src/lib.rt:150:1
 returns-3 : tie.Need-returns-3
 returns-3 c =
     let o = c .before .before .before .before .before .before .before in
@@ -80,11 +63,9 @@ returns-3 c =
     (sym (c .before .before .before .enum-told2 .given .1) ∙ c .before .before .before .before .before .gate .ensures)
     (c .before .begin .ensures)
 
--- src/lib.rt:150:1
 same-length-2 : tie.Need-same-length-2
 same-length-2 c = search needs
 
--- src/lib.rt:150:1
 returns-4 : tie.Need-returns-4
 returns-4 c =
     let o = c .before .before .before .before .before .before .before in

@@ -1,7 +1,6 @@
 -- A sign and a size joined: what the machine's negation gives.
 use borrow.Author.Needs.{needs}
-use mathlib.Core.Bool.{true, false}
-use mathlib.Core.Path.{_≡_, sym, _∙_, ap}
+use mathlib.Core.Path.{sym, _∙_, ap}
 use mir.Syntax.{w64}
 use mir.Facts.{toZ-ofZ, toZ-pos}
 use Rattle.laws.specs.Sign.{signed}

@@ -1,5 +1,5 @@
 -- A scaled value with its sign, or the kind of its refusal.
-use mathlib.Core.Path.{_≡_, sym, _∙_, ap}
+use mathlib.Core.Path.{sym, _∙_, ap}
 use native.Mathlib.Omega.{arith}
 use mir.Facts.{toZ-ofZ}
 use Rattle.number.specs.Integer.{read}

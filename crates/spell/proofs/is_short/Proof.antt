@@ -1,10 +1,11 @@
 -- Whether a number is short: nothing past its first digits, or the rest of them tested.
 use borrow.Author.Needs.{needs}
-use mathlib.Core.Path.{sym, _∙_, ap}
+use mathlib.Core.Path.{_≡_, sym, _∙_, ap}
 use Prim.Native.Nat.{ℕ, _-_, _%_, _^_}
 use native.Mathlib.Omega.{arith}
 use lib.Dec.{eqb}
 use Rattle.laws.proofs.Tens.{ten-pos}
+use Rattle.number.proofs.Tens.{ten-is}
 use Rattle.spell.proofs.Counts.{places-most}
 use Rattle.spell.proofs.Leading.{short-all, short-test}
 use Rattle.spell.proofs.is_short.Statement.{statement}
@@ -20,16 +21,19 @@ sub-ten-to : tie.Need-sub-ten-to
 sub-ten-to c = search needs
 
 ten-to-requires : tie.Need-ten-to-requires
-ten-to-requires c κs = omega (arith, places-most 18 (c .before .before .args .size))
+ten-to-requires c κs = search needs
+
+power : (c : tie.After-ten-to) → c .ten-to .result ≡ 10 ^ (c .before .before .places-of .result - c .before .before .before .args .digits)
+power c = ten-is (c .ten-to .ensures) (omega (arith, places-most 18 (c .before .before .before .args .size)))
 
 rem-result : tie.Need-rem-result
-rem-result c = rw (c .ten-to .ensures) (ten-pos _)
+rem-result c = rw (power c) (ten-pos _)
 
 returns-2 : tie.Need-returns-2
 returns-2 c =
     let a = c .before .before .before .args in
     ap (λ (x : ℕ). eqb (a .size % x) 0)
-    (c .ten-to .ensures ∙ ap (λ (k : ℕ). 10 ^ (k - a .digits)) (c .before .before .places-of .ensures))
+    (power c ∙ ap (λ (k : ℕ). 10 ^ (k - a .digits)) (c .before .before .places-of .ensures))
     ∙ sym (short-test 18 (a .digits) (a .size))
 
 pub is-short-spec : {M : Type 1} → statement M

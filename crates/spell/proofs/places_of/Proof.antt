@@ -1,8 +1,9 @@
 -- The count of a number's digits, from the top down: what is left to look at has as many.
-use Prim.Native.Nat.{ℕ, _≤_}
+use Prim.Native.Nat.{ℕ, _-_, _^_, _≤_}
 use mathlib.Core.Path.{_≡_, refl, sym, _∙_, ap}
 use native.Mathlib.Omega.{arith}
 use Rattle.laws.specs.Digits.{places}
+use Rattle.number.proofs.Tens.{ten-is}
 use Rattle.spell.proofs.Counts.{places-stop, places-go, places-end}
 use Rattle.spell.proofs.places_of.Statement.{statement}
 use Rattle.spell.proofs.places_of.Tie as tie
@@ -22,10 +23,13 @@ sub-ten-to c = omega arith
 ten-to-requires : tie.Need-ten-to-requires Inv-loop μ-loop
 ten-to-requires c κs = omega arith
 
+power : (c : tie.After-ten-to Inv-loop μ-loop) → c .ten-to .result ≡ 10 ^ (c .before .before .loop .i - 1)
+power c = ten-is (c .ten-to .ensures) (omega arith)
+
 returns : tie.Need-returns Inv-loop μ-loop
 returns c =
     let l = c .before .before .before in
-    sym (l .loop .inv .1 ∙ places-stop (l .loop .i) (l .before .args .n) (omega arith) (omega arith))
+    sym (l .loop .inv .1 ∙ places-stop (l .loop .i) (l .before .args .n) (omega arith) (omega (arith, power (c .before))))
 
 sub-i : tie.Need-sub-i Inv-loop μ-loop
 sub-i c = omega arith
@@ -36,7 +40,7 @@ loop-less c = omega arith
 loop-again : tie.Need-loop-again Inv-loop μ-loop
 loop-again c =
     let l = c .before .before .before in
-    (omega arith, l .loop .inv .1 ∙ places-go (l .loop .i) (l .before .args .n) (omega arith) (omega arith))
+    (omega arith, l .loop .inv .1 ∙ places-go (l .loop .i) (l .before .args .n) (omega arith) (omega (arith, power (c .before))))
 
 returns-2 : tie.Need-returns-2 Inv-loop μ-loop
 returns-2 c =

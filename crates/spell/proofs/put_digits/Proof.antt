@@ -1,8 +1,9 @@
 -- Digits put from the left: what stands and what is still to come make the whole; the law of one digit carries a turn.
-use Prim.Native.Nat.{_/_, _<_}
-use mathlib.Core.Path.{refl}
+use Prim.Native.Nat.{_-_, _/_, _^_, _<_}
+use mathlib.Core.Path.{_≡_, refl}
 use native.Mathlib.Omega.{arith}
 use Rattle.laws.proofs.Tens.{ten-pos}
+use Rattle.number.proofs.Tens.{ten-is}
 use Rattle.spell.proofs.Pieces.{Spelling, digit-small, turn, done}
 use Rattle.spell.proofs.put_digits.Statement.{statement}
 use Rattle.spell.proofs.put_digits.Tie as tie
@@ -23,13 +24,16 @@ sub-left c = omega arith
 ten-to-requires : tie.Need-ten-to-requires Inv-loop μ-loop
 ten-to-requires c κs = omega arith
 
+power : (c : tie.After-ten-to Inv-loop μ-loop) → c .ten-to .result ≡ 10 ^ (c .before .before .loop .left - 1)
+power c = ten-is (c .ten-to .ensures) (omega arith)
+
 small : (c : tie.After-ten-to Inv-loop μ-loop) → c .before .before .loop .rest / c .ten-to .result < 10
 small c =
     let l = c .before .before .loop in
-    rw (c .ten-to .ensures) (digit-small (l .left) (l .rest) (omega arith) (l .inv .below))
+    rw (power c) (digit-small (l .left) (l .rest) (omega arith) (l .inv .below))
 
 div-text : tie.Need-div-text Inv-loop μ-loop
-div-text c = rw (c .ten-to .ensures) (ten-pos _)
+div-text c = rw (power c) (ten-pos _)
 
 cast-text : tie.Need-cast-text Inv-loop μ-loop
 cast-text c = record { fits = omega (arith, small c) }
@@ -41,7 +45,7 @@ slice-write-text : tie.Need-slice-write-text Inv-loop μ-loop
 slice-write-text c = omega arith
 
 rem-rest : tie.Need-rem-rest Inv-loop μ-loop
-rem-rest c = rw (c .ten-to .ensures) (ten-pos _)
+rem-rest c = rw (power c) (ten-pos _)
 
 add-end : tie.Need-add-end Inv-loop μ-loop
 add-end c = omega arith
@@ -52,7 +56,7 @@ loop-less c = omega arith
 loop-again : tie.Need-loop-again Inv-loop μ-loop
 loop-again c =
     let l = c .before .before .loop in
-    turn (l .inv) (omega arith) (c .ten-to .ensures) (omega arith)
+    turn (l .inv) (omega arith) (power c) (omega arith)
 
 same-length : tie.Need-same-length Inv-loop μ-loop
 same-length c = c .before .loop .inv .kept

@@ -1,18 +1,10 @@
 -- The column of a place.
-use mathlib.Core.Path.{_≡_, _∙_, ap₂}
+use mathlib.Core.Path.{_∙_, ap₂}
+use Rattle.laws.proofs.Signs.{back}
 use Rattle.sheet.specs.Lattice.{placeOf}
-use Prim.Native.Nat.{_<_, _^_}
-use lib.IntN.{ℤ}
-use lib.Signed.{mag}
-use mir.Facts.{toZ-ofZ}
-use mir.Syntax.{w64}
-use mir.Val.{toZ, ofZ}
 use borrow.Author.Needs.{needs}
 use Rattle.load.proofs.blocks.column_place.Statement.{statement}
 use Rattle.load.proofs.blocks.column_place.Tie as tie
-
-back : (z : ℤ) → mag z < 2 ^ 63 → toZ w64 (ofZ w64 z) ≡ z
-back z h = toZ-ofZ (record { sfits = h })
 
 column-lattice-requires : tie.Need-column-lattice-requires
 column-lattice-requires c κs = search needs

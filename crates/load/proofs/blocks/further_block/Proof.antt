@@ -1,22 +1,14 @@
 -- A further block: scanned, and filled where it has no fault; Judged has why.
-use mathlib.Core.Path.{_≡_, subst₂}
+use mathlib.Core.Path.{subst₂}
 use native.Mathlib.Omega.{arith}
 use lib.Dec.{lit≤}
+use Rattle.laws.proofs.Signs.{back}
 use Rattle.load.specs.Deliver.{zOf, further}
 use Rattle.load.specs.Steps.{BlockScanned, Placing}
 use Rattle.load.proofs.Judged.{Scannable, refused-step, fault-refused, fault-none, scanned-filling, filled-step}
-use Prim.Native.Nat.{_<_, _^_}
-use lib.IntN.{ℤ}
-use lib.Signed.{mag}
-use mir.Facts.{toZ-ofZ}
-use mir.Syntax.{w64}
-use mir.Val.{toZ, ofZ}
 use borrow.Author.Needs.{needs}
 use Rattle.load.proofs.blocks.further_block.Statement.{statement}
 use Rattle.load.proofs.blocks.further_block.Tie as tie
-
-back : (z : ℤ) → mag z < 2 ^ 63 → toZ w64 (ofZ w64 z) ≡ z
-back z h = toZ-ofZ (record { sfits = h })
 
 sub-lesser-of : tie.Need-sub-lesser-of
 sub-lesser-of c =

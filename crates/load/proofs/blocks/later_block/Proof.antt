@@ -1,6 +1,6 @@
 -- An open profile goes on, the next one opens, or record C ends the sheet.
 use mathlib.Core.Bool.{not}
-use mathlib.Core.Path.{_≡_, sym, ap}
+use mathlib.Core.Path.{sym, ap}
 use native.Mathlib.Omega.{arith}
 use borrow.Author.Tests.{eq-eqb, ne-eqb, lt-ltb, le-ltb}
 use Rattle.load.proofs.Judged.{same-step, finish-stepped}

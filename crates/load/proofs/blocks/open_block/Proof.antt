@@ -1,22 +1,14 @@
 -- A first block: scanned, then placed and filled; Placed has why.
 use mathlib.Core.Path.{_≡_, refl, subst, subst₂}
 use native.Mathlib.Omega.{arith}
+use Rattle.laws.proofs.Signs.{back}
 use Rattle.load.specs.Deliver.{zOf, openingWith}
 use Rattle.load.specs.Steps.{BlockScanned, Placeable, Stepped}
 use Rattle.load.proofs.Judged.{refused-step, fault-refused, fault-none, scanned-tally}
 use Rattle.load.proofs.Placed.{placed-step}
-use Prim.Native.Nat.{_<_, _^_}
-use lib.IntN.{ℤ}
-use lib.Signed.{mag}
-use mir.Facts.{toZ-ofZ}
-use mir.Syntax.{w64}
-use mir.Val.{toZ, ofZ}
 use borrow.Author.Needs.{needs}
 use Rattle.load.proofs.blocks.open_block.Statement.{statement}
 use Rattle.load.proofs.blocks.open_block.Tie as tie
-
-back : (z : ℤ) → mag z < 2 ^ 63 → toZ w64 (ofZ w64 z) ≡ z
-back z h = toZ-ofZ (record { sfits = h })
 
 lesser-of-requires : tie.Need-lesser-of-requires
 lesser-of-requires c κs = search needs

@@ -1,17 +1,9 @@
 -- The head as an open profile.
-use mathlib.Core.Path.{_≡_}
-use lib.IntN.{pos, ℤ}
-use Prim.Native.Nat.{_<_, _^_}
-use lib.Signed.{mag}
-use mir.Facts.{toZ-ofZ}
-use mir.Syntax.{w64}
-use mir.Val.{toZ, ofZ}
+use lib.IntN.{pos}
 use borrow.Author.Needs.{needs}
+use Rattle.laws.proofs.Signs.{back}
 use Rattle.load.proofs.blocks.open_profile.Statement.{statement}
 use Rattle.load.proofs.blocks.open_profile.Tie as tie
-
-back : (z : ℤ) → mag z < 2 ^ 63 → toZ w64 (ofZ w64 z) ≡ z
-back z h = toZ-ofZ (record { sfits = h })
 
 place-number-requires : tie.Need-place-number-requires
 place-number-requires c κs = search needs

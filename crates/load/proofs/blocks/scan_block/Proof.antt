@@ -1,5 +1,5 @@
 -- Posts, then blanks; BlockScans has what each test decides.
-use mathlib.Core.Path.{_≡_, sym, _∙_, subst}
+use mathlib.Core.Path.{sym, _∙_, subst}
 use mir.Facts.{toZ-ofZ}
 use Rattle.load.specs.Posts.{noTally}
 use Rattle.load.specs.Scan.{Scanned}
@@ -45,8 +45,8 @@ mul-from c = search needs
 add-from : tie.Need-add-from
 add-from c = search needs
 
-rest-blank-requires : tie.Need-rest-blank-requires
-rest-blank-requires c κs = search needs
+blank-from-requires : tie.Need-blank-from-requires
+blank-from-requires c κs = search needs
 
 same-length-2 : tie.Need-same-length-2
 same-length-2 c = search needs
@@ -60,7 +60,7 @@ returns-2 c =
     scan-clean (a .block .now) (a .byte) (a .n) (a .z) (a .datum) (a .scratch .now) (s .scan-posts .last .1 .1 .1 .1 .1 .1 .0) (s .scan-posts .result) (scanned s)
     (e .if1 .left)
     (o .pre .byte-from)
-    (sym (c .before .before .rest-blank .ensures) ∙ c .before .if2 .taken)
+    (sym (c .before .before .blank-from .ensures) ∙ c .before .if2 .taken)
 
 add-t14 : tie.Need-add-t14
 add-t14 c = search needs
@@ -80,7 +80,7 @@ returns-3 c =
     scan-soiled (a .block .now) (a .byte) (a .n) (a .z) (a .datum) (a .scratch .now) (s .scan-posts .last .1 .1 .1 .1 .1 .1 .0) (s .scan-posts .result) (scanned s)
     (e .if1 .left)
     (o .pre .byte-from)
-    (sym (c .before .rest-blank .ensures) ∙ c .if2 .left)
+    (sym (c .before .blank-from .ensures) ∙ c .if2 .left)
 
 pub scan-block-spec : {M : Type 1} → statement M
 scan-block-spec =
@@ -92,7 +92,7 @@ scan-block-spec =
     sub-from
     mul-from
     add-from
-    rest-blank-requires
+    blank-from-requires
     same-length-2
     returns-2
     add-t14

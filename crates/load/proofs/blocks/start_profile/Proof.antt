@@ -1,5 +1,5 @@
 -- The head read, then its block.
-use mathlib.Core.Path.{_≡_, refl, sym, _∙_, ap}
+use mathlib.Core.Path.{refl, sym, _∙_, ap}
 use Prim.Native.Nat.{_+_}
 use Rattle.profile.proofs.RecordLaws.{head-bounds}
 use Rattle.load.specs.Deliver.{opening}

@@ -1,21 +1,15 @@
 -- One height more, by the cases of `tallyOne`; the heights are carried as bits and read back.
 use mathlib.Core.Bool.{false}
 use mathlib.Core.Path.{_≡_, sym, _∙_, ap, ap₂}
-use Prim.Native.Nat.{_<_, _^_}
 use borrow.Author.Needs.{needs}
 use borrow.Author.Tests.{ne-eqb}
 use lib.IntN.{ℤ}
-use lib.Signed.{mag}
 use mir.Facts.{toZ-ofZ}
-use mir.Syntax.{w64}
-use mir.Val.{toZ, ofZ}
+use Rattle.laws.proofs.Signs.{back}
 use Rattle.sheet.specs.RecordA.{lesser, greater}
 use Rattle.load.specs.Posts.{sameZ, void}
 use Rattle.load.proofs.posts.tally_one.Statement.{statement}
 use Rattle.load.proofs.posts.tally_one.Tie as tie
-
-back : (z : ℤ) → mag z < 2 ^ 63 → toZ w64 (ofZ w64 z) ≡ z
-back z h = toZ-ofZ (record { sfits = h })
 
 same-requires : tie.Need-same-requires
 same-requires c κs = search needs

@@ -2,20 +2,12 @@
 use mathlib.Core.Bool.{true}
 use mathlib.Core.Path.{_≡_, sym, _∙_, ap₂}
 use borrow.Author.Tests.{not-true, not-false, eq-eqb, ne-eqb}
+use Rattle.laws.proofs.Signs.{back}
 use Rattle.load.specs.Posts.{sameZ}
 use Rattle.load.specs.Deliver.{stated}
-use Prim.Native.Nat.{_<_, _^_}
-use lib.IntN.{ℤ}
-use lib.Signed.{mag}
-use mir.Facts.{toZ-ofZ}
-use mir.Syntax.{w64}
-use mir.Val.{toZ, ofZ}
 use borrow.Author.Needs.{needs}
 use Rattle.load.proofs.steps.close_fault.Statement.{statement}
 use Rattle.load.proofs.steps.close_fault.Tie as tie
-
-back : (z : ℤ) → mag z < 2 ^ 63 → toZ w64 (ofZ w64 z) ≡ z
-back z h = toZ-ofZ (record { sfits = h })
 
 test1 : (c : tie.After-agrees) → c .agrees .result ≡ sameZ (c .before .before .before .before .before .args .s .profile .least) (stated (c .before .before .before .before .before .args .s .profile .filled) (c .before .before .before .before .before .args .s .profile .low))
 test1 c =

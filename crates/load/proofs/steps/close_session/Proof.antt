@@ -1,17 +1,9 @@
 -- A profile closed: one more, and none open.
-use mathlib.Core.Path.{_≡_}
-use Prim.Native.Nat.{_+_, _<_, _^_}
-use lib.IntN.{ℤ}
-use lib.Signed.{mag}
-use mir.Facts.{toZ-ofZ}
-use mir.Syntax.{w64}
-use mir.Val.{toZ, ofZ}
+use Prim.Native.Nat.{_+_}
 use borrow.Author.Needs.{needs}
+use Rattle.laws.proofs.Signs.{back}
 use Rattle.load.proofs.steps.close_session.Statement.{statement}
 use Rattle.load.proofs.steps.close_session.Tie as tie
-
-back : (z : ℤ) → mag z < 2 ^ 63 → toZ w64 (ofZ w64 z) ≡ z
-back z h = toZ-ofZ (record { sfits = h })
 
 new-requires : tie.Need-new-requires
 new-requires c κs = search needs

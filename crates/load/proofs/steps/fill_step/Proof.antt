@@ -1,12 +1,11 @@
 -- A good block: filled, and closed where its last post is read.
-use mathlib.Core.Path.{_≡_, sym, _∙_, ap, ap₂, subst⁻¹}
+use mathlib.Core.Path.{sym, _∙_, ap, ap₂, subst⁻¹}
 use Prim.Native.Nat.{_-_}
 use native.Mathlib.Omega.{arith}
-use borrow.Author.Tests.{lt-ltb, le-ltb, eq-eqb, ne-eqb}
+use borrow.Author.Tests.{lt-ltb, le-ltb}
 use Rattle.load.specs.Deliver.{closeFault, closedSession, nextCell}
 use Rattle.load.specs.Steps.{Extremes, filledWith}
-use Rattle.load.specs.declared.steps.Refusal.{Refusal}
-use Rattle.load.specs.declared.steps.Step.the-variants.{Wrong, Fills}
+use Rattle.load.specs.declared.steps.Step.the-variants.{Fills}
 use Rattle.load.proofs.Merging.{filled-extremes, close-wrong, close-good}
 use borrow.Author.Needs.{needs}
 use Rattle.load.proofs.steps.fill_step.Statement.{statement}

@@ -1,19 +1,12 @@
 -- The profile with its tally merged.
-use mathlib.Core.Path.{_≡_, _∙_, ap}
-use Prim.Native.Nat.{_+_, _<_, _^_}
+use mathlib.Core.Path.{_∙_, ap}
+use Prim.Native.Nat.{_+_}
+use Rattle.laws.proofs.Signs.{back}
 use Rattle.load.specs.Steps.{merged}
 use Rattle.load.specs.declared.posts.Tally.{Tally}
-use lib.IntN.{ℤ}
-use lib.Signed.{mag}
-use mir.Facts.{toZ-ofZ}
-use mir.Syntax.{w64}
-use mir.Val.{toZ, ofZ}
 use borrow.Author.Needs.{needs}
 use Rattle.load.proofs.steps.read_on.Statement.{statement}
 use Rattle.load.proofs.steps.read_on.Tie as tie
-
-back : (z : ℤ) → mag z < 2 ^ 63 → toZ w64 (ofZ w64 z) ≡ z
-back z h = toZ-ofZ (record { sfits = h })
 
 profile-tally-requires : tie.Need-profile-tally-requires
 profile-tally-requires c κs = search needs

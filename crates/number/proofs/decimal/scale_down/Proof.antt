@@ -1,8 +1,10 @@
 -- Kept digits over a power of ten.
-use Prim.Native.Nat.{ℕ, _%_, _/_, _^_, _<_}
+use Prim.Native.Nat.{ℕ, _%_, _^_, _<_}
 use mathlib.Core.Path.{_≡_, subst, subst⁻¹}
+use native.Mathlib.Omega.{arith}
 use borrow.Author.Tests.{eq-eqb, ne-eqb}
 use Rattle.laws.proofs.Tens.{ten-pos}
+use Rattle.number.proofs.Tens.{ten-is}
 use Rattle.number.proofs.Scale.{too-deep}
 use borrow.Author.Needs.{needs}
 use Rattle.number.proofs.decimal.scale_down.Statement.{statement}
@@ -23,14 +25,17 @@ returns-2 c =
 ten-to-requires : tie.Need-ten-to-requires
 ten-to-requires c κs = search needs
 
+divisor : (c : tie.After-ten-to) → c .ten-to .result ≡ 10 ^ c .before .before .before .args .d
+divisor c = ten-is (c .ten-to .ensures) (omega arith)
+
 rem-if3 : tie.Need-rem-if3
-rem-if3 c = subst⁻¹ (λ (x : ℕ). 0 < x) (c .ten-to .ensures) (ten-pos (c .before .before .before .args .d))
+rem-if3 c = subst⁻¹ (λ (x : ℕ). 0 < x) (divisor c) (ten-pos (c .before .before .before .args .d))
 
 returns-3 : tie.Need-returns-3
 returns-3 c =
     let b = c .before in
     let a = b .before .before .before .args in
-    let h = subst (λ (x : ℕ). a .head % x ≡ 0 → ⊥) (b .ten-to .ensures) (c .if3 .taken) in
+    let h = subst (λ (x : ℕ). a .head % x ≡ 0 → ⊥) (divisor b) (c .if3 .taken) in
     simp (b .before .before .if1 .left, ne-eqb _ _ h)
 
 div-t6 : tie.Need-div-t6
@@ -40,8 +45,8 @@ returns-4 : tie.Need-returns-4
 returns-4 c =
     let b = c .before in
     let a = b .before .before .before .args in
-    let h = subst (λ (x : ℕ). a .head % x ≡ 0) (b .ten-to .ensures) (c .if3 .left) in
-    rw (b .ten-to .ensures) (simp (b .before .before .if1 .left, eq-eqb _ _ h))
+    let h = subst (λ (x : ℕ). a .head % x ≡ 0) (divisor b) (c .if3 .left) in
+    rw (divisor b) (simp (b .before .before .if1 .left, eq-eqb _ _ h))
 
 pub scale-down-spec : {M : Type 1} → statement M
 scale-down-spec =

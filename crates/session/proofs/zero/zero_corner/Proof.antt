@@ -1,7 +1,6 @@
 -- Both numbers, each told by its bits.
 use mathlib.Core.Path.{_∙_}
-use Rattle.laws.specs.Sign.{_and_}
-use Rattle.session.specs.Session.{isZero}
+use Rattle.laws.specs.Sign.{isZero, _and_}
 use Rattle.session.proofs.Told.{told}
 use Rattle.session.proofs.zero.zero_corner.Statement.{statement}
 use Rattle.session.proofs.zero.zero_corner.Tie as tie

@@ -9,7 +9,8 @@ use mir.Facts.{toZ-ofZ, sfits-toZ, fits-ofZ}
 use Rattle.laws.proofs.Integers.{size-sum, size-minus, size-fits}
 use Rattle.laws.proofs.Signs.{as-unsigned}
 use Rattle.sheet.specs.Lattice.{notNegative}
-use Rattle.sheet.proofs.Cases.{real-small, cut-minus, cut-plus}
+use Rattle.sheet.proofs.Cases.{real-small}
+use Rattle.sheet.proofs.Naturals.{below-none, above-size}
 use Rattle.sheet.proofs.lattice.many_from.Statement.{statement}
 use Rattle.sheet.proofs.lattice.many_from.Tie as tie
 
@@ -45,13 +46,13 @@ read : (c : tie.Start) → kept c ≡ plain c
 read c = toZ-ofZ (sub-n c) ∙ number-is c
 
 returns : tie.Need-returns
-returns c = sym (cut-minus (kept (c .before)) (c .if1 .taken)) ∙ ap notNegative (read (c .before))
+returns c = sym (below-none (kept (c .before)) (c .if1 .taken)) ∙ ap notNegative (read (c .before))
 
 cast-result : tie.Need-cast-result
 cast-result c = as-unsigned tt _ (sfits-toZ (fits-ofZ (sub-n (c .before)))) (c .if1 .left)
 
 returns-2 : tie.Need-returns-2
-returns-2 c = sym (cut-plus (kept (c .before)) (c .if1 .left)) ∙ ap notNegative (read (c .before))
+returns-2 c = above-size (kept (c .before)) (c .if1 .left) ∙ ap notNegative (read (c .before))
 
 pub many-from-spec : {M : Type 1} → statement M
 many-from-spec = tie.close (tie.spec add-n sub-n returns cast-result returns-2)

@@ -1,11 +1,10 @@
 -- Text, byte by byte: what is left to look at decides.
-use Prim.Native.Nat.{_≤_, _-_, _+_}
-use mathlib.Core.Bool.{true, false}
+use Prim.Native.Nat.{_≤_, _-_}
 use mathlib.Core.Path.{_≡_, refl, sym, _∙_}
 use native.Mathlib.Omega.{arith}
 use borrow.Author.Needs.{needs}
 use borrow.Author.Tests.{not-true, not-false}
-use lib.ListN.{length, drop, getD}
+use lib.ListN.{length, drop}
 use Rattle.number.specs.Grammar.{every}
 use Rattle.sheet.specs.RecordA.{isWord}
 use Rattle.sheet.proofs.Stretches.{every-turn, every-stop, every-end}

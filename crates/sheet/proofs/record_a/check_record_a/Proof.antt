@@ -1,5 +1,5 @@
 -- The verdict: length, fields, whole record; HeaderA has why.
-use mathlib.Core.Path.{_≡_, sym, _∙_, ap}
+use mathlib.Core.Path.{sym, _∙_, ap}
 use Rattle.sheet.specs.RecordA.{wholeFault}
 use Rattle.sheet.specs.declared.record_a.Checked.the-variants.{Sheet}
 use Rattle.sheet.specs.declared.record_a.Fault.{Fault}

@@ -1,19 +1,12 @@
 -- The four orders of the corners, whose numbers are carried as bits.
 use mathlib.Core.Bool.{true}
 use mathlib.Core.Path.{_≡_, sym, _∙_, ap₂}
-use Prim.Native.Nat.{_<_, _^_}
 use borrow.Author.Tests.{not-true, not-false}
-use lib.IntN.{ℤ}
-use lib.Signed.{mag, ltZ}
-use mir.Facts.{toZ-ofZ}
-use mir.Syntax.{w64}
-use mir.Val.{toZ, ofZ}
+use lib.Signed.{ltZ}
 use borrow.Author.Needs.{needs}
+use Rattle.laws.proofs.Signs.{back}
 use Rattle.sheet.proofs.record_a.corners_in_order.Statement.{statement}
 use Rattle.sheet.proofs.record_a.corners_in_order.Tie as tie
-
-back : (z : ℤ) → mag z < 2 ^ 63 → toZ w64 (ofZ w64 z) ≡ z
-back z h = toZ-ofZ (record { sfits = h })
 
 test1 : (c : tie.After-is-less) → c .is-less .result ≡ ltZ (c .before .before .before .before .before .before .before .args .h .sw .x) (c .before .before .before .before .before .before .before .args .h .se .x)
 test1 c =

@@ -3,10 +3,9 @@ use borrow.Author.Tests.{le-leb, lt-leb, le-ltb, lt-ltb}
 use native.Mathlib.Decide.{decLe}
 use native.Mathlib.Omega.{arith}
 use lib.Dec.{leb, ltb}
-use mathlib.Core.Bool.{Bool, true, false, not}
-use mathlib.Core.Path.{_≡_, refl, sym, _∙_}
+use mathlib.Core.Bool.{not}
+use mathlib.Core.Path.{_≡_, sym, _∙_}
 use Prim.Native.Nat.{ℕ, _≤_, _<_}
-use Rattle.sheet.specs.RecordA.{isWord}
 use Rattle.sheet.proofs.record_a.is_word.Statement.{statement}
 use Rattle.sheet.proofs.record_a.is_word.Tie as tie
 

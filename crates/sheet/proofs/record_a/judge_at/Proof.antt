@@ -1,6 +1,6 @@
 -- A row of the table, cut out of the block and judged; TableA has why.
-use mathlib.Core.Path.{_≡_, sym, _∙_, subst⁻¹}
-use Prim.Native.Nat.{ℕ, _≤_, _+_, _-_}
+use mathlib.Core.Path.{_∙_, subst⁻¹}
+use Prim.Native.Nat.{ℕ, _≤_, _-_}
 use native.Mathlib.Omega.{arith}
 use Rattle.sheet.proofs.TableA.{row-inside, judge-at-is}
 use borrow.Author.Needs.{needs}

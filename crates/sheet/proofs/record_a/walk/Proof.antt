@@ -1,13 +1,9 @@
 -- The walk over the table: the loop keeps `Reached`, whose laws are in TableA.
-use Prim.Native.Nat.{_-_, _+_}
-use mathlib.Core.Path.{_≡_, sym, _∙_, ap, subst}
+use Prim.Native.Nat.{_-_}
+use mathlib.Core.Path.{sym, _∙_}
 use native.Mathlib.Omega.{arith}
-use borrow.Author.Needs.{needs}
 use mir.Facts.{toZ-ofZ}
 use mir.Syntax.{w64}
-use lib.ListN.{length, set, length-set}
-use Rattle.number.specs.declared.Reading.{Reading}
-use Rattle.sheet.specs.RecordASteps.{Begun}
 use Rattle.sheet.proofs.TableA.{Reached, row-inside, reached-start, reached-stop, reached-turn, reached-end}
 use Rattle.sheet.proofs.record_a.walk.Statement.{statement}
 use Rattle.sheet.proofs.record_a.walk.Tie as tie

@@ -10,8 +10,8 @@ use mir.Syntax.{w64}
 use mir.Val.{Fits, SFits, toZ, ofZ}
 use mir.Facts.{toZ-ofZ, sfits-toZ, fits-ofZ}
 use Rattle.laws.proofs.Signs.{Turned, turned, as-unsigned}
-use Rattle.sheet.proofs.lattice.size_of.Statement.{statement}
-use Rattle.sheet.proofs.lattice.size_of.Tie as tie
+use Rattle.number.proofs.size_of.Statement.{statement}
+use Rattle.number.proofs.size_of.Tie as tie
 
 read : (c : tie.Start) → toZ w64 (ofZ w64 (c .args .z)) ≡ c .args .z
 read c = toZ-ofZ (c .fits .z)
