@@ -57,8 +57,7 @@ fn posts_line(text: &mut [u8], at: usize, posts: u64, filled: u64) -> usize
     ensures { λ r. ⌜ Within 108 (now (text .entry)) at (postsLine posts filled) (now (text .exit)) r ⌝ }
 {
     let a = pieces::put_number(text, at, b"posts ", posts);
-    let b = pieces::put_number(text, a, b" void ", voids_of(posts, filled));
-    pieces::put_word(text, b, b"\n")
+    pieces::put_last(text, a, b" void ", voids_of(posts, filled))
 }
 
 fn extreme_of(filled: u64, z: i64) -> i64
@@ -79,14 +78,6 @@ fn range_line(text: &mut [u8], at: usize, filled: u64, low: i64, high: i64) -> u
     pieces::put_word(text, b, b"\n")
 }
 
-fn end_line(text: &mut [u8], at: usize, taken: u64) -> usize
-    requires { ⌜ at + 72 ≤ length (now text) ⌝ }
-    ensures { λ r. ⌜ Within 72 (now (text .entry)) at (endLine taken) (now (text .exit)) r ⌝ }
-{
-    let a = pieces::put_number(text, at, b"end ", taken);
-    pieces::put_word(text, a, b"\n")
-}
-
 fn report(text: &mut [u8], s: Session) -> usize
     requires { ⌜ 512 ≤ length (now text) ⌝ }
     ensures { λ r. ⌜ Within 504 (now (text .entry)) 0 (reportText s) (now (text .exit)) r ⌝ }
@@ -95,7 +86,7 @@ fn report(text: &mut [u8], s: Session) -> usize
     let posts = head_line(text, h);
     let range = posts_line(text, posts, s.posts, s.filled);
     let end = range_line(text, range, s.filled, s.low, s.high);
-    end_line(text, end, s.taken)
+    pieces::put_last(text, end, b"end ", s.taken)
 }
 
 fn refusal(text: &mut [u8], kind: u32, block: u64, byte: u32) -> usize
@@ -104,16 +95,7 @@ fn refusal(text: &mut [u8], kind: u32, block: u64, byte: u32) -> usize
 {
     let a = pieces::put_number(text, 0, b"refused ", kind as u64);
     let b = pieces::put_number(text, a, b" ", block);
-    let c = pieces::put_number(text, b, b" ", byte as u64);
-    pieces::put_word(text, c, b"\n")
-}
-
-fn unfinished(text: &mut [u8], taken: u64) -> usize
-    requires { ⌜ 512 ≤ length (now text) ⌝ }
-    ensures { λ r. ⌜ Within 72 (now (text .entry)) 0 (unfinishedText taken) (now (text .exit)) r ⌝ }
-{
-    let a = pieces::put_number(text, 0, b"unfinished ", taken);
-    pieces::put_word(text, a, b"\n")
+    pieces::put_last(text, b, b" ", byte as u64)
 }
 
 // The four lines of a sheet. Answers the bytes used; none, and nothing changed, where they do not fit. So do the others below.
@@ -137,7 +119,7 @@ pub fn put_unfinished(taken: u64, out: &mut [u8]) -> usize
     ensures { λ r. ⌜ Given (unfinishedText taken) (now (out .entry)) (now (out .exit)) r ⌝ }
 {
     let mut text = [0u8; 512];
-    let end = unfinished(&mut text, taken);
+    let end = pieces::put_last(&mut text, 0, b"unfinished ", taken);
     pieces::give(&text[0..end], out)
 }
 

@@ -7,6 +7,8 @@ ghost use Rattle.spell.specs.Spell.{minus};
 ghost use Rattle.lines.specs.Lines.{digits, numeral, units, hundredths, Given};
 ghost use Rattle.lines.specs.Pieces.{Within};
 
+const FEED: u8 = 10;
+
 const MINUS: u8 = 45;
 
 const POINT: u8 = 46;
@@ -82,6 +84,15 @@ pub(crate) fn put_number(text: &mut [u8], at: usize, word: &[u8], n: u64) -> usi
 {
     let first = put_word(text, at, word);
     put_digits(text, first, 20, n)
+}
+
+// The last number of a line, after its word, and the line feed.
+pub(crate) fn put_last(text: &mut [u8], at: usize, word: &[u8], n: u64) -> usize
+    requires { ⌜ (at + 72 ≤ length (now text)) × (length (now word) ≤ 12) ⌝ }
+    ensures { λ r. ⌜ Within 72 (now (text .entry)) at ((now (word .entry) ++ numeral n) ++ (10 ∷ [])) (now (text .exit)) r ⌝ }
+{
+    let end = put_number(text, at, word, n);
+    put_byte(text, end, FEED)
 }
 
 // A word and hundredths as units with two decimals.

@@ -1,4 +1,4 @@
--- Posts and voids after their words, and the line feed.
+-- Posts and voids after their words, the last with the line feed.
 use native.Mathlib.Omega.{arith}
 use Rattle.lines.specs.Lines.{postsLine}
 use Rattle.lines.proofs.Putting.{then, wider}
@@ -12,20 +12,14 @@ slice-aggregate-put-number c = search needs
 put-number-requires : tie.Need-put-number-requires
 put-number-requires c κs = search needs
 
-slice-aggregate-put-number-2 : tie.Need-slice-aggregate-put-number-2
-slice-aggregate-put-number-2 c = search needs
+slice-aggregate-put-last : tie.Need-slice-aggregate-put-last
+slice-aggregate-put-last c = search needs
 
 voids-of-requires : tie.Need-voids-of-requires
 voids-of-requires c κs = search needs
 
-put-number-requires-2 : tie.Need-put-number-requires-2
-put-number-requires-2 c κs = search needs
-
-slice-aggregate-put-word : tie.Need-slice-aggregate-put-word
-slice-aggregate-put-word c = search needs
-
-put-word-requires : tie.Need-put-word-requires
-put-word-requires c κs = search needs
+put-last-requires : tie.Need-put-last-requires
+put-last-requires c κs = search needs
 
 same-length : tie.Need-same-length
 same-length c = search needs
@@ -34,11 +28,8 @@ returns : tie.Need-returns
 unfolding postsLine
 returns c =
     let f = c .before .before in
-    let void = f .before .before .before .before .before in
-    let posts = void .before .before .before .before .before .before in
-    rw (← void .before .voids-of .ensures)
-    (wider (omega arith)
-    (then (posts .put-number .ensures) (then (void .put-number2 .ensures) (f .put-word .ensures))))
+    let posts = f .before .before .before .before .before .before in
+    rw (← f .before .voids-of .ensures) (wider (omega arith) (then (posts .put-number .ensures) (f .put-last .ensures)))
 
 pub posts-line-spec : {M : Type 1} → statement M
 posts-line-spec =
@@ -46,10 +37,8 @@ posts-line-spec =
     (tie.spec
     slice-aggregate-put-number
     put-number-requires
-    slice-aggregate-put-number-2
+    slice-aggregate-put-last
     voids-of-requires
-    put-number-requires-2
-    slice-aggregate-put-word
-    put-word-requires
+    put-last-requires
     same-length
     returns)

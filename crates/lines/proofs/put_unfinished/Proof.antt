@@ -1,15 +1,19 @@
 -- What was put in the scratch is the whole text, and that is what is given.
 use Rattle.spell.proofs.Pieces.{front}
+use Rattle.lines.specs.Lines.{unfinishedText}
 use Rattle.lines.proofs.Putting.{given-of}
 use borrow.Author.Needs.{needs}
 use Rattle.lines.proofs.put_unfinished.Statement.{statement}
 use Rattle.lines.proofs.put_unfinished.Tie as tie
 
-slice-aggregate-unfinished : tie.Need-slice-aggregate-unfinished
-slice-aggregate-unfinished c = search needs
+slice-aggregate-put-last : tie.Need-slice-aggregate-put-last
+slice-aggregate-put-last c = search needs
 
-unfinished-requires : tie.Need-unfinished-requires
-unfinished-requires c κs = search needs
+slice-aggregate-put-last-2 : tie.Need-slice-aggregate-put-last-2
+slice-aggregate-put-last-2 c = search needs
+
+put-last-requires : tie.Need-put-last-requires
+put-last-requires c κs = search needs
 
 sub-give : tie.Need-sub-give
 sub-give c = search needs
@@ -27,18 +31,20 @@ same-length : tie.Need-same-length
 same-length c = search needs
 
 returns : tie.Need-returns
+unfolding unfinishedText
 returns c =
     let g = c .before .before in
     let b = g .before .before .before .before .before in
-    let o = b .before .before .before in
-    given-of (o .args .out .now) (front (b .unfinished .ensures .puts)) (g .give .ensures)
+    let o = b .before .before .before .before in
+    given-of (o .args .out .now) (front (b .put-last .ensures .puts)) (g .give .ensures)
 
 pub put-unfinished-spec : {M : Type 1} → statement M
 put-unfinished-spec =
     tie.close
     (tie.spec
-    slice-aggregate-unfinished
-    unfinished-requires
+    slice-aggregate-put-last
+    slice-aggregate-put-last-2
+    put-last-requires
     sub-give
     part-give-start
     part-give-end

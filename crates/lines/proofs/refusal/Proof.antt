@@ -1,4 +1,4 @@
--- Three numbers after their words, and the line feed.
+-- Three numbers after their words, the last with the line feed.
 use native.Mathlib.Omega.{arith}
 use Rattle.lines.specs.Lines.{refusedText}
 use Rattle.lines.proofs.Putting.{then, wider}
@@ -18,17 +18,11 @@ slice-aggregate-put-number-2 c = search needs
 put-number-requires-2 : tie.Need-put-number-requires-2
 put-number-requires-2 c κs = search needs
 
-slice-aggregate-put-number-3 : tie.Need-slice-aggregate-put-number-3
-slice-aggregate-put-number-3 c = search needs
+slice-aggregate-put-last : tie.Need-slice-aggregate-put-last
+slice-aggregate-put-last c = search needs
 
-put-number-requires-3 : tie.Need-put-number-requires-3
-put-number-requires-3 c κs = search needs
-
-slice-aggregate-put-word : tie.Need-slice-aggregate-put-word
-slice-aggregate-put-word c = search needs
-
-put-word-requires : tie.Need-put-word-requires
-put-word-requires c κs = search needs
+put-last-requires : tie.Need-put-last-requires
+put-last-requires c κs = search needs
 
 same-length : tie.Need-same-length
 same-length c = search needs
@@ -37,12 +31,10 @@ returns : tie.Need-returns
 unfolding refusedText
 returns c =
     let f = c .before .before in
-    let byte = f .before .before .before .before .before in
-    let block = byte .before .before .before .before .before in
+    let block = f .before .before .before .before .before in
     let kind = block .before .before .before .before .before in
     wider (omega arith)
-    (then (kind .put-number .ensures)
-    (then (block .put-number2 .ensures) (then (byte .put-number3 .ensures) (f .put-word .ensures))))
+    (then (kind .put-number .ensures) (then (block .put-number2 .ensures) (f .put-last .ensures)))
 
 pub refusal-spec : {M : Type 1} → statement M
 refusal-spec =
@@ -52,9 +44,7 @@ refusal-spec =
     put-number-requires
     slice-aggregate-put-number-2
     put-number-requires-2
-    slice-aggregate-put-number-3
-    put-number-requires-3
-    slice-aggregate-put-word
-    put-word-requires
+    slice-aggregate-put-last
+    put-last-requires
     same-length
     returns)

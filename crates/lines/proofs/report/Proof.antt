@@ -4,7 +4,7 @@ use native.Mathlib.Omega.{arith}
 use mir.Syntax.{w64}
 use mir.Val.{toZ, ofZ}
 use mir.Facts.{toZ-ofZ}
-use Rattle.lines.specs.Lines.{reportText}
+use Rattle.lines.specs.Lines.{endLine, reportText}
 use Rattle.lines.proofs.Putting.{then, wider}
 use borrow.Author.Needs.{needs}
 use Rattle.lines.proofs.report.Statement.{statement}
@@ -24,9 +24,12 @@ range-line-requires c κs =
     let h = head .head-line .ensures in
     omega (arith, p .puts .kept, p .short, h .puts .kept, h .short, head .before .before .before .before .pre)
 
-end-line-requires : tie.Need-end-line-requires
-end-line-requires c κs =
-    let range = c .before .before .before in
+slice-aggregate-put-last : tie.Need-slice-aggregate-put-last
+slice-aggregate-put-last c = search needs
+
+put-last-requires : tie.Need-put-last-requires
+put-last-requires c κs =
+    let range = c .before .before .before .before in
     let posts = range .before .before .before .before .before .before in
     let head = posts .before .before .before .before in
     let r = range .range-line .ensures in
@@ -38,10 +41,10 @@ same-length : tie.Need-same-length
 same-length c = search needs
 
 returns : tie.Need-returns
-unfolding reportText
+unfolding reportText endLine
 returns c =
     let end = c .before .before in
-    let range = end .before .before .before .before in
+    let range = end .before .before .before .before .before in
     let told = range .before in
     let posts = told .before .before .before .before .before in
     let head = posts .before .before .before .before in
@@ -51,7 +54,7 @@ returns c =
     rw (← low, ← high)
     (wider (omega arith)
     (then (head .head-line .ensures)
-    (then (posts .posts-line .ensures) (then (range .range-line .ensures) (end .end-line .ensures)))))
+    (then (posts .posts-line .ensures) (then (range .range-line .ensures) (end .put-last .ensures)))))
 
 pub report-spec : {M : Type 1} → statement M
 report-spec =
@@ -60,6 +63,7 @@ report-spec =
     head-line-requires
     posts-line-requires
     range-line-requires
-    end-line-requires
+    slice-aggregate-put-last
+    put-last-requires
     same-length
     returns)
