@@ -1,26 +1,23 @@
 -- The writer refuses exactly what document 01 lists: its fault is none exactly where each test is passed, test by test.
 use mathlib.Core.Bool.{true, false, cond}
-use mathlib.Core.List.{List, [], _∷_}
-use mathlib.Core.Path.{_≡_, refl, sym, _∙_, ap}
-use Prim.Native.Nat.{ℕ, suc, _≤_, _<_}
+use mathlib.Core.List.{List}
+use mathlib.Core.Path.{_≡_, _∙_, ap}
+use Prim.Native.Nat.{ℕ, _<_}
 use native.Mathlib.Omega.{arith}
-use borrow.Author.Tests.{ltb-false, le-ltb, leb-false, lt-leb, eqb-true, eqb-false, eq-eqb}
+use borrow.Author.Tests.{le-ltb, leb-false, lt-leb, eqb-true, eqb-false, eq-eqb}
 use lib.Dec.{leb, ltb, eqb}
 use lib.IntN.{ℤ}
 use lib.ListN.{length}
 use Rattle.number.proofs.GrammarParts.{by-test}
-use Rattle.sheet.specs.RecordA.{recordA, headerOf, faultOf, checkedKind}
-use Rattle.sheet.specs.declared.record_a.Checked.{Checked}
-use Rattle.sheet.specs.declared.record_a.Checked.the-variants.{Sheet, Refused as NoSheet}
-use Rattle.sheet.specs.declared.record_a.Header.{Header}
-use Rattle.sheet.proofs.RulesA.{sheet-header}
+use Rattle.sheet.specs.RecordA.{headerOf}
 use Rattle.load.specs.Deliver.{cellsOf, zOf}
 use Rattle.written.specs.Cells.{canSend, sendable, blockCount}
 use Rattle.written.specs.Blocks.{sheetCells}
-use Rattle.written.specs.Sending.{fault, gridFault, checkedFault, sheetFault, numberFault, first, blockFault}
+use Rattle.written.specs.Sending.{fault, checkedFault, sheetFault, numberFault, first, blockFault}
 use Rattle.returns.specs.Writers.{CanBeSent, Accepts}
 use Rattle.written.proofs.ColumnsSent.{all-send}
 use Rattle.written.proofs.SheetSent.{sheet-cell, sheet-length, cell-sends}
+use Rattle.written.proofs.SheetPasses.{none-of, fine-passes}
 use Rattle.returns.proofs.ZeroReads.{template-length}
 
 -- all cells of the sheet can be sent
@@ -61,58 +58,11 @@ accepts-fine template grid number block a =
 
 -- ---- what is refused nothing passes
 
--- no list has more cells that can be sent than it has cells
-at-most : (z : ℕ) (cells : List ℤ) → sendable z cells ≤ length cells
-unfolding sendable
-at-most z [] = omega arith
-at-most z (c ∷ cells) =
-    let h = at-most z cells in by-test (canSend z c) (λ e. rw e (omega (arith, h))) (λ e. rw e (omega arith))
-
-sends-all : (h : Header) (grid : List ℤ) → cellsOf h ≤ length grid → cellsOf h ≤ sendable (zOf h) (sheetCells h grid)
-    → sendable (zOf h) (sheetCells h grid) ≡ cellsOf h
-sends-all h grid room le = omega (arith, le, at-most (zOf h) (sheetCells h grid), sheet-length h grid room)
-
-none-of : {X : Type 0} (n : ℕ) → suc n ≡ 0 → X
-none-of n e = absurd (omega (arith, e))
-
--- a refused template has a kind
-codeOf : Checked → ℕ
-codeOf (Sheet h) = 0
-codeOf (NoSheet kind byte) = 1
-
-refused-kind : (template : List ℕ) (kind byte : ℕ) → recordA template ≡ NoSheet kind byte → kind ≡ 0 → ⊥
-unfolding recordA codeOf
-refused-kind template kind byte e z =
-    by-test (eqb (faultOf template .kind) 0)
-    (λ f.
-    let q : Sheet (headerOf template) ≡ NoSheet kind byte = rw f at e in
-    let n : _≡_ {A = ℕ} 0 1 = ap codeOf q in omega (arith, n))
-    (λ f.
-    let q : NoSheet (faultOf template .kind) (faultOf template .byte) ≡ NoSheet kind byte = rw f at e in
-    eqb-false (faultOf template .kind) 0 f (ap checkedKind q ∙ z))
-
 pub fine-sent : (template : List ℕ) (grid : List ℤ) → sheetFault template grid .kind ≡ 0 → CanBeSent template grid
-unfolding sheetFault
 fine-sent template grid z =
-    by-test (eqb (length template) 1024)
-    (λ l. go (recordA template) refl (rw l at z))
-    (λ l. let q : _≡_ {A = ℕ} 1 0 = rw l at z in none-of 0 q)
-  where
-    go : (c : Checked) → recordA template ≡ c → checkedFault c grid .kind ≡ 0 → CanBeSent template grid
-    go (NoSheet kind byte) e g = absurd (refused-kind template kind byte e g)
-    go (Sheet k) e g =
-        let h = headerOf template in
-        let same : k ≡ h = sheet-header template e in
-        let f : gridFault h grid .kind ≡ 0 = ap (λ (x : Header). gridFault x grid .kind) (sym same) ∙ g in
-        by-test (ltb (length grid) (cellsOf h))
-        (λ a. let q : _≡_ {A = ℕ} 12 0 = rw a at f in none-of 11 q)
-        (λ a.
-        let room = ltb-false (length grid) (cellsOf h) a in
-        by-test (ltb (sendable (zOf h) (sheetCells h grid)) (cellsOf h))
-        (λ b. let q : _≡_ {A = ℕ} 13 0 = rw (a, b) at f in none-of 12 q)
-        (λ b.
-        let le = ltb-false (sendable (zOf h) (sheetCells h grid)) (cellsOf h) b in
-        record { sheet = e ∙ ap Sheet same; room = room; cells = cell-sends h grid room (zOf h) (sends-all h grid room le) }))
+    let p = fine-passes template grid z in
+    let h = headerOf template in
+    record { sheet = p .sheet; room = p .room; cells = cell-sends h grid (p .room) (zOf h) (p .all) }
 
 pub fine-accepts : (template : List ℕ) (grid : List ℤ) (number : ℕ) (block : List ℕ)
     → blockFault template grid number (length block) .kind ≡ 0 → Accepts template grid number block

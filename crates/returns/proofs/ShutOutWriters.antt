@@ -33,7 +33,7 @@ use Rattle.spell.specs.Spell.{spell, count, integerText, realFits}
 use Rattle.spell.proofs.Fits.{fits-real, whole-spacing-fits, fine-spacing-fits, thousands-fit}
 use Rattle.spell.proofs.Texts.{minus-short}
 use Rattle.written.specs.Cells.{canSend, sendable, voidsBefore, upToLast, profileCells, columnCells, cellsSent, startSent, columnWith}
-use Rattle.written.specs.Blocks.{Piece, sheetCells, piecesA, blockZero, xSent, ySent, profileBlock, blockSent}
+use Rattle.written.specs.Blocks.{Piece, sheetCells, piecesBy, piecesA, blockZero, xSent, ySent, profileBlock, blockSent}
 use Rattle.written.specs.Blocks.Piece.{keeps as keeps·sent, whole, real as real·sent, spacing}
 use Rattle.written.specs.Sending.{Fault, fault, sheetFault, blockFault}
 use Rattle.returns.specs.Writers.{Writer, KeepsWriting, CanBeSent}
@@ -62,7 +62,7 @@ abbrev firstByte : List ℕ → ℕ
 firstByte block = getD block 0 0
 
 letter0 : firstByte (blockSent paperA (headerOf paperA) paperCells 0) ≡ 80
-unfolding blockSent blockZero piecesA paperA
+unfolding blockSent blockZero piecesBy paperA
 letter0 = refl
 
 letter1 : firstByte (blockSent paperA (headerOf paperA) paperCells 1) ≡ 32
@@ -248,7 +248,7 @@ module _ (template : List ℕ) (grid : List ℤ) (can : CanBeSent template grid)
   z-step-fits = let s = facts .zstep in fine-spacing-fits (h .zstep) (omega (arith, s .least)) (omega (arith, s .greatest, s .step)) (s .step)
 
   pieces-fit : allFit (piecesA h grid) ≡ true
-  unfolding piecesA
+  unfolding piecesBy
   pieces-fit =
       and-both (sw-fits .0)
       (and-both (sw-fits .1)

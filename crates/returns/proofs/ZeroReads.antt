@@ -35,7 +35,7 @@ use Rattle.load.specs.Deliver.{cellsOf, zOf}
 use Rattle.load.proofs.SoundOut.{sheet-obeys}
 use Rattle.meaning.specs.Text.{joined}
 use Rattle.meaning.specs.Rules.{leastStated, greatestStated}
-use Rattle.written.specs.Blocks.{Piece, pieceText, sheetCells, piecesA, blockZero}
+use Rattle.written.specs.Blocks.{Piece, pieceText, sheetCells, piecesBy, piecesA, blockZero}
 use Rattle.written.specs.Blocks.Piece.{keeps, whole, real as real·sent, spacing}
 use Rattle.returns.specs.Header.{headerSent}
 
@@ -287,7 +287,7 @@ module _ (template : List ℕ) (h : Header) (grid : List ℤ) (is : recordA temp
   fits-zero = thousands-fit (pos 0) (omega arith) refl
 
   fills : Fills template ps
-  unfolding piecesA
+  unfolding piecesBy
   fills =
       more (kept-length 1 144 (omega arith))
       (more (whole-fills (h .level) level-small)
@@ -318,12 +318,12 @@ module _ (template : List ℕ) (h : Header) (grid : List ℤ) (is : recordA temp
       (more (kept-length 865 160 (omega arith)) none))))))))))))))))))))))))))
 
   pub zero-length : length (blockZero template h grid) ≡ 1024
-  unfolding blockZero piecesA
+  unfolding blockZero piecesBy
   zero-length = pieces-length template ps fills
 
   -- ---- each piece, read back
   at : (i : ℕ) → i < 27 → take (pieceWidth (pieceOf ps i)) (drop (bytesBefore ps i) sent) ≡ pieceText template (pieceOf ps i)
-  unfolding blockZero piecesA
+  unfolding blockZero piecesBy
   at i l = piece-begins template ps fills i l
 
   whole-back : (n : ℕ) → n < 10 ^ 5 → (text : List ℕ) → text ≡ integerText 6 (pos n) → integer text ≡ read (pos n)
@@ -336,111 +336,111 @@ module _ (template : List ℕ) (h : Header) (grid : List ℤ) (is : recordA temp
   step-back v f text e = ap real e ∙ spacing-back 12 (pos v) (omega arith) f
 
   level-read : integer (stretch 145 6 sent) ≡ read (pos (h .level))
-  unfolding piecesA
+  unfolding piecesBy
   level-read = whole-back (h .level) level-small (stretch 145 6 sent) (at 1 (omega arith))
 
   one-read : integer (stretch 151 6 sent) ≡ read (pos 1)
-  unfolding piecesA
+  unfolding piecesBy
   one-read = whole-back 1 (omega arith) (stretch 151 6 sent) (at 2 (omega arith))
 
   system-read : integer (stretch 157 6 sent) ≡ read (pos (h .system))
-  unfolding piecesA
+  unfolding piecesBy
   system-read = whole-back (h .system) system-small (stretch 157 6 sent) (at 3 (omega arith))
 
   zone-read : integer (stretch 163 6 sent) ≡ read (pos (h .zone))
-  unfolding piecesA
+  unfolding piecesBy
   zone-read = whole-back (h .zone) (zone-small (h .system) (h .zone) (kept .zone)) (stretch 163 6 sent) (at 4 (omega arith))
 
   ground-read : integer (stretch 529 6 sent) ≡ read (pos (h .ground))
-  unfolding piecesA
+  unfolding piecesBy
   ground-read = whole-back (h .ground) (ground-small (h .system) (h .ground) (kept .ground)) (stretch 529 6 sent) (at 6 (omega arith))
 
   vertical-read : integer (stretch 535 6 sent) ≡ read (pos (h .vertical))
-  unfolding piecesA
+  unfolding piecesBy
   vertical-read = whole-back (h .vertical) vertical-small (stretch 535 6 sent) (at 7 (omega arith))
 
   sides-read : integer (stretch 541 6 sent) ≡ read (pos 4)
-  unfolding piecesA
+  unfolding piecesBy
   sides-read = whole-back 4 (omega arith) (stretch 541 6 sent) (at 8 (omega arith))
 
   sw-x-read : real (stretch 547 24 sent) ≡ read (h .sw .x)
-  unfolding piecesA
+  unfolding piecesBy
   sw-x-read = number-back (h .sw .x) (kept .sw .0) (stretch 547 24 sent) (at 9 (omega arith))
 
   sw-y-read : real (stretch 571 24 sent) ≡ read (h .sw .y)
-  unfolding piecesA
+  unfolding piecesBy
   sw-y-read = number-back (h .sw .y) (kept .sw .1) (stretch 571 24 sent) (at 10 (omega arith))
 
   nw-x-read : real (stretch 595 24 sent) ≡ read (h .nw .x)
-  unfolding piecesA
+  unfolding piecesBy
   nw-x-read = number-back (h .nw .x) (kept .nw .0) (stretch 595 24 sent) (at 11 (omega arith))
 
   nw-y-read : real (stretch 619 24 sent) ≡ read (h .nw .y)
-  unfolding piecesA
+  unfolding piecesBy
   nw-y-read = number-back (h .nw .y) (kept .nw .1) (stretch 619 24 sent) (at 12 (omega arith))
 
   ne-x-read : real (stretch 643 24 sent) ≡ read (h .ne .x)
-  unfolding piecesA
+  unfolding piecesBy
   ne-x-read = number-back (h .ne .x) (kept .ne .0) (stretch 643 24 sent) (at 13 (omega arith))
 
   ne-y-read : real (stretch 667 24 sent) ≡ read (h .ne .y)
-  unfolding piecesA
+  unfolding piecesBy
   ne-y-read = number-back (h .ne .y) (kept .ne .1) (stretch 667 24 sent) (at 14 (omega arith))
 
   se-x-read : real (stretch 691 24 sent) ≡ read (h .se .x)
-  unfolding piecesA
+  unfolding piecesBy
   se-x-read = number-back (h .se .x) (kept .se .0) (stretch 691 24 sent) (at 15 (omega arith))
 
   se-y-read : real (stretch 715 24 sent) ≡ read (h .se .y)
-  unfolding piecesA
+  unfolding piecesBy
   se-y-read = number-back (h .se .y) (kept .se .1) (stretch 715 24 sent) (at 16 (omega arith))
 
   least-read : real (stretch 739 24 sent) ≡ read (leastStated (sheetCells h grid))
-  unfolding piecesA
+  unfolding piecesBy
   least-read = number-back (leastStated (sheetCells h grid)) fl (stretch 739 24 sent) (at 17 (omega arith))
 
   greatest-read : real (stretch 763 24 sent) ≡ read (greatestStated (sheetCells h grid))
-  unfolding piecesA
+  unfolding piecesBy
   greatest-read = number-back (greatestStated (sheetCells h grid)) fg (stretch 763 24 sent) (at 18 (omega arith))
 
   angle-read : real (stretch 787 24 sent) ≡ read (pos 0)
-  unfolding piecesA
+  unfolding piecesBy
   angle-read = number-back (pos 0) fits-zero (stretch 787 24 sent) (at 19 (omega arith))
 
   accuracy-read : integer (stretch 811 6 sent) ≡ read (pos 0)
-  unfolding piecesA
+  unfolding piecesBy
   accuracy-read = whole-back 0 (omega arith) (stretch 811 6 sent) (at 20 (omega arith))
 
   x-read : real (stretch 817 12 sent) ≡ read (pos (h .xstep))
-  unfolding piecesA
+  unfolding piecesBy
   x-read = step-back (h .xstep) fits-x (stretch 817 12 sent) (at 21 (omega arith))
 
   y-read : real (stretch 829 12 sent) ≡ read (pos (h .ystep))
-  unfolding piecesA
+  unfolding piecesBy
   y-read = step-back (h .ystep) fits-y (stretch 829 12 sent) (at 22 (omega arith))
 
   z-read : real (stretch 841 12 sent) ≡ read (pos (h .zstep))
-  unfolding piecesA
+  unfolding piecesBy
   z-read = step-back (h .zstep) fits-z (stretch 841 12 sent) (at 23 (omega arith))
 
   m-read : integer (stretch 853 6 sent) ≡ read (pos 1)
-  unfolding piecesA
+  unfolding piecesBy
   m-read = whole-back 1 (omega arith) (stretch 853 6 sent) (at 24 (omega arith))
 
   columns-read : integer (stretch 859 6 sent) ≡ read (pos (columnsOf h))
-  unfolding piecesA
+  unfolding piecesBy
   columns-read = whole-back (columnsOf h) columns-small (stretch 859 6 sent) (at 25 (omega arith))
 
   first-kept : stretch 1 144 sent ≡ stretch 1 144 template
-  unfolding piecesA
+  unfolding piecesBy
   first-kept = at 0 (omega arith)
 
   middle-kept : stretch 169 360 sent ≡ stretch 169 360 template
-  unfolding piecesA
+  unfolding piecesBy
   middle-kept = at 5 (omega arith)
 
   last-kept : stretch 865 160 sent ≡ stretch 865 160 template
-  unfolding piecesA
+  unfolding piecesBy
   last-kept = at 26 (omega arith)
 
   -- ---- no row is at fault

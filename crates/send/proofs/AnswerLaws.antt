@@ -1,103 +1,44 @@
 -- From a judged sheet to what the writers ask, and from what they give to the public answer.
 use mathlib.Core.Bool.{true, false}
-use mathlib.Core.List.{List, [], _∷_}
-use mathlib.Core.Path.{_≡_, refl, sym, _∙_, ap, subst}
-use Prim.Native.Nat.{ℕ, suc, _-_, _≤_, _<_}
+use mathlib.Core.List.{List}
+use mathlib.Core.Path.{_≡_, sym, _∙_, ap, subst}
+use Prim.Native.Nat.{ℕ, _-_, _≤_, _<_}
 use native.Mathlib.Omega.{arith}
-use borrow.Author.Tests.{ltb-false, le-leb, lt-leb, eqb-true, eqb-false, eq-eqb, ne-eqb}
-use lib.Dec.{leb, ltb, eqb}
+use borrow.Author.Tests.{le-leb, lt-leb, eqb-true, eq-eqb, ne-eqb}
+use lib.Dec.{leb, eqb}
 use lib.IntN.{ℤ}
 use lib.ListN.{length}
 use Rattle.number.proofs.GrammarParts.{by-test}
-use Rattle.sheet.specs.RecordA.{recordA, headerOf, faultOf, checkedKind, columnsOf, rowsOf}
-use Rattle.sheet.specs.declared.record_a.Checked.{Checked}
-use Rattle.sheet.specs.declared.record_a.Checked.the-variants.{Sheet, Refused as NoSheet}
+use Rattle.sheet.specs.RecordA.{headerOf, columnsOf, rowsOf}
 use Rattle.sheet.specs.declared.record_a.Header.{Header}
-use Rattle.sheet.proofs.RulesA.{sheet-header}
-use Rattle.session.proofs.Facts.{header-facts}
-use Rattle.load.specs.Deliver.{cellsOf, zOf}
 use Rattle.load.proofs.SoundOut.{sheet-obeys}
-use Rattle.written.specs.Cells.{canSend, sendable, startSent, columnWith, blockCount}
-use Rattle.written.specs.Blocks.{sheetCells, blockZero, profileBlock, blockSent}
-use Rattle.written.specs.Sending.{Fault, gridFault, checkedFault, sheetFault, blockFault, blockAfter, countOf}
-use Rattle.written.proofs.SheetSent.{sheet-length}
+use Rattle.written.specs.Cells.{startSent, columnWith, blockCount}
+use Rattle.written.specs.Blocks.{blockZero, profileBlock, blockSent}
+use Rattle.written.specs.Sending.{Fault, fault, sheetFault, blockFault, blockAfter, countOf}
+use Rattle.written.proofs.SheetPasses.{fine-passes}
 use Rattle.send.specs.declared.Sent.{Sent}
 use Rattle.send.specs.declared.Sent.the-variants.{Written, Refused}
 use Rattle.send.specs.declared.one_block.Judged.{Judged}
 use Rattle.send.specs.declared.one_block.Judged.the-variants.{Good, Bad}
 use Rattle.send.specs.declared.scan.Found.{Found}
 use Rattle.send.specs.ScanSteps.{Sizes, Finds, startAt}
-use Rattle.send.specs.SendSteps.{sentBy, judgedBy, SendableSheet, ProfileAsked, ZeroAsked}
+use Rattle.send.specs.SendSteps.{sentBy, judgedBy, ProfileAsked, ZeroAsked}
 use Rattle.send.specs.AnswerSteps.{LaterAsked, laterBlock, countFault, numbered}
+use Rattle.send.specs.WholeSteps.{FitAsked}
 use Rattle.send.proofs.ScanLaws.{start-sent, column-with}
+use Rattle.send.proofs.WholeText.{sizes}
 
 -- ---- a sheet that nothing stands against can be sent
 
--- no list has more cells that can be sent than it has cells
-at-most : (z : ℕ) (cells : List ℤ) → sendable z cells ≤ length cells
-unfolding sendable
-at-most z [] = omega arith
-at-most z (c ∷ cells) =
-    let h = at-most z cells in by-test (canSend z c) (λ e. rw e (omega (arith, h))) (λ e. rw e (omega arith))
-
-none-of : {X : Type 0} (n : ℕ) → suc n ≡ 0 → X
-none-of n e = absurd (omega (arith, e))
-
--- a refused template has a kind
-codeOf : Checked → ℕ
-codeOf (Sheet h) = 0
-codeOf (NoSheet kind byte) = 1
-
-refused-kind : (template : List ℕ) (kind byte : ℕ) → recordA template ≡ NoSheet kind byte → kind ≡ 0 → ⊥
-unfolding recordA codeOf
-refused-kind template kind byte e z =
-    by-test (eqb (faultOf template .kind) 0)
-    (λ f.
-    let q : Sheet (headerOf template) ≡ NoSheet kind byte = rw f at e in
-    let n : _≡_ {A = ℕ} 0 1 = ap codeOf q in omega (arith, n))
-    (λ f.
-    let q : NoSheet (faultOf template .kind) (faultOf template .byte) ≡ NoSheet kind byte = rw f at e in
-    eqb-false (faultOf template .kind) 0 f (ap checkedKind q ∙ z))
-
--- test by test
-fine-sheet : (template : List ℕ) (grid : List ℤ) → sheetFault template grid .kind ≡ 0
-    → (length template ≡ 1024) × SendableSheet (headerOf template) grid
-unfolding sheetFault
-fine-sheet template grid z =
-    by-test (eqb (length template) 1024)
-    (λ l. (eqb-true (length template) 1024 l, go (recordA template) refl (rw l at z)))
-    (λ l. let q : _≡_ {A = ℕ} 1 0 = rw l at z in none-of 0 q)
-  where
-    go : (c : Checked) → recordA template ≡ c → checkedFault c grid .kind ≡ 0 → SendableSheet (headerOf template) grid
-    go (NoSheet kind byte) e g = absurd (refused-kind template kind byte e g)
-    go (Sheet k) e g =
-        let h = headerOf template in
-        let same : k ≡ h = sheet-header template e in
-        let f : gridFault h grid .kind ≡ 0 = ap (λ (x : Header). gridFault x grid .kind) (sym same) ∙ g in
-        by-test (ltb (length grid) (cellsOf h))
-        (λ a. let q : _≡_ {A = ℕ} 12 0 = rw a at f in none-of 11 q)
-        (λ a.
-        let room = ltb-false (length grid) (cellsOf h) a in
-        by-test (ltb (sendable (zOf h) (sheetCells h grid)) (cellsOf h))
-        (λ b. let q : _≡_ {A = ℕ} 13 0 = rw (a, b) at f in none-of 12 q)
-        (λ b.
-        let le = ltb-false (sendable (zOf h) (sheetCells h grid)) (cellsOf h) b in
-        record {
-          obeys = sheet-obeys template h (e ∙ ap Sheet same);
-          room = room;
-          all = omega (arith, le, at-most (zOf h) (sheetCells h grid), sheet-length h grid room);
-        }))
+pub fine-fits : (template : List ℕ) (grid : List ℤ) → sheetFault template grid .kind ≡ 0 → FitAsked template (headerOf template) grid
+fine-fits template grid z =
+    let p = fine-passes template grid z in
+    record {
+      sheet = record { obeys = sheet-obeys template (headerOf template) (p .sheet); room = p .room; all = p .all };
+      template-long = p .long;
+    }
 
 -- ---- what the judge's answer says
-
--- what stands in either case; the cases differ
-badKind : Judged → ℕ
-badKind (Good h) = 0
-badKind (Bad kind number) = kind
-
-badNumber : Judged → ℕ
-badNumber (Good h) = 0
-badNumber (Bad kind number) = number
 
 isBad : Judged → ℕ
 isBad (Good h) = 0
@@ -106,6 +47,10 @@ isBad (Bad kind number) = 1
 goodHeader : Header → Judged → Header
 goodHeader k (Good h) = h
 goodHeader k (Bad kind number) = k
+
+badFault : Judged → Fault
+badFault (Good h) = fault 0 0
+badFault (Bad kind number) = fault kind number
 
 module _ (k : Header) (f : Fault) where
   judged-good : (h : Header) → Good h ≡ judgedBy k f → (f .kind ≡ 0) × (h ≡ k)
@@ -119,9 +64,8 @@ module _ (k : Header) (f : Fault) where
       let q : Good h ≡ Bad (f .kind) (f .number) = rw t at e in
       let n : _≡_ {A = ℕ} 0 1 = ap isBad q in absurd (omega (arith, n)))
 
-  judged-bad : (kind number : ℕ) → Bad kind number ≡ judgedBy k f
-      → (eqb (f .kind) 0 ≡ false) × ((kind ≡ f .kind) × (number ≡ f .number))
-  unfolding isBad badKind badNumber
+  pub judged-bad : (kind number : ℕ) → Bad kind number ≡ judgedBy k f → (eqb (f .kind) 0 ≡ false) × (fault kind number ≡ f)
+  unfolding isBad badFault
   judged-bad kind number e =
       by-test (eqb (f .kind) 0)
       (λ t.
@@ -129,25 +73,24 @@ module _ (k : Header) (f : Fault) where
       let n : _≡_ {A = ℕ} 1 0 = ap isBad q in absurd (omega (arith, n)))
       (λ t.
       let q : Bad kind number ≡ Bad (f .kind) (f .number) = rw t at e in
-      (t, (ap badKind q, ap badNumber q)))
+      (t, ap badFault q))
 
 module _ (template : List ℕ) (grid : List ℤ) where
   module _ (h : Header) (e : Good h ≡ judgedBy (headerOf template) (sheetFault template grid)) where
     good-none : sheetFault template grid .kind ≡ 0
     good-none = judged-good (headerOf template) (sheetFault template grid) h e .0
 
-    good-header : h ≡ headerOf template
+    pub good-header : h ≡ headerOf template
     good-header = judged-good (headerOf template) (sheetFault template grid) h e .1
 
-    good-fine : eqb (sheetFault template grid .kind) 0 ≡ true
+    pub good-fine : eqb (sheetFault template grid .kind) 0 ≡ true
     good-fine = eq-eqb (sheetFault template grid .kind) 0 good-none
 
-    pub good-sheet : SendableSheet h grid
-    good-sheet = subst (λ (k : Header). SendableSheet k grid) (sym good-header) (fine-sheet template grid good-none .1)
+    pub good-fits : FitAsked template h grid
+    good-fits = subst (λ (k : Header). FitAsked template k grid) (sym good-header) (fine-fits template grid good-none)
 
     pub good-asked : (block : List ℕ) → length block ≡ 1024 → ZeroAsked template h grid block
-    good-asked block l =
-        record { sheet = good-sheet; template-long = fine-sheet template grid good-none .0; long = l }
+    good-asked block l = record { sheet = good-fits .sheet; template-long = good-fits .template-long; long = l }
 
     pub good-count : blockCount h grid ≡ countOf template grid
     unfolding countOf
@@ -184,11 +127,8 @@ module _ (template : List ℕ) (grid : List ℤ) where
         let j = judged-bad (headerOf template) (sheetFault template grid) kind n e in
         let s : blockFault template grid number (length block) ≡ sheetFault template grid
         = rw (eq-eqb (length block) 1024 l, j .0) in
-        let p : sentBy (sheetFault template grid) ≡ Refused (sheetFault template grid .kind) (sheetFault template grid .number)
-        = rw (j .0) in (
-          (λ i. Refused (j .1 .0 i) (j .1 .1 i)) ∙ sym p ∙ ap sentBy (sym s),
-          rw (s, j .0),
-        )
+        let p : Refused (sheetFault template grid .kind) (sheetFault template grid .number) ≡ sentBy (sheetFault template grid) = rw (j .0) in
+        (ap (λ (x : Fault). Refused (x .kind) (x .number)) (j .1) ∙ p ∙ ap sentBy (sym s), rw (s, j .0))
 
   -- "1 lent block length (number 0)" comes first
   pub length-answer : (number : ℕ) (block : List ℕ) → (length block ≡ 1024 → ⊥)
@@ -201,17 +141,12 @@ module _ (template : List ℕ) (grid : List ℤ) where
 
 -- ---- a later block is one of a profile
 
-pub sheet-sizes : {h : Header} {grid : List ℤ} → SendableSheet h grid → Sizes (columnsOf h) (rowsOf h) grid
-sheet-sizes {h} {grid} s =
-    let f = header-facts h (s .obeys) in
-    record { columns-most = f .columns .1; rows-most = f .rows .1; rows-least = f .rows .0; cells-there = s .room }
-
 -- the code's numbers for the header's
 pub asked-find : {h : Header} {grid : List ℤ} {number : ℕ} {block : List ℕ} (columns rows : ℕ)
     → columns ≡ columnsOf h → rows ≡ rowsOf h → LaterAsked h grid number block
     → Sizes columns rows grid × ((1 ≤ number) × (number < startAt rows grid columns))
 asked-find {h} {grid} {number} {block} columns rows e f a =
-    rw (e, f) (sheet-sizes (a .sheet), (a .later, rw (start-sent h grid (columnsOf h)) (a .below)))
+    rw (e, f) (sizes (a .sheet), (a .later, rw (start-sent h grid (columnsOf h)) (a .below)))
 
 module _ (h : Header) {grid : List ℤ} {number : ℕ} {columns rows : ℕ} {r : Found}
     (e : columns ≡ columnsOf h) (f : rows ≡ rowsOf h) (found : Finds columns rows grid number r) where

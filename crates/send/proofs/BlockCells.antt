@@ -15,11 +15,10 @@ use Rattle.session.proofs.Facts.{Heading, header-facts}
 use Rattle.load.specs.Posts.{void}
 use Rattle.load.specs.Deliver.{zOf}
 use Rattle.meaning.specs.Rules.{leastStated, greatestStated}
-use Rattle.written.specs.Blocks.{sheetCells, blockZero, xSent, ySent, profileBlock}
+use Rattle.written.specs.Blocks.{sheetCells, blockZero, xSent, ySent, profileBlock, yOfRow}
 use Rattle.written.specs.Cells.{canSend, sendable, columnCells, cellsSent}
 use Rattle.written.proofs.ColumnsSent.{each-sends, all-send, sendable-sent}
 use Rattle.written.proofs.SheetSent.{column-length, column-sendable}
-use Rattle.send.specs.BlockSteps.{yOfRow}
 use Rattle.send.specs.ProfileSteps.{firstBy, furtherBy}
 use Rattle.send.specs.ScanSteps.{Sizes}
 use Rattle.send.specs.SendSteps.{SendableSheet, ProfileAsked}

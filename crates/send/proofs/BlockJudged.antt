@@ -1,16 +1,14 @@
 -- The verdict on a template and grid, by the test that decided it.
 use mathlib.Core.Bool.{true, false}
 use mathlib.Core.List.{List}
-use mathlib.Core.Path.{_≡_, sym, _∙_, ap}
+use mathlib.Core.Path.{_≡_, _∙_, ap}
 use Prim.Native.Nat.{ℕ, _≤_, _<_}
 use native.Mathlib.Omega.{arith}
 use borrow.Author.Tests.{lt-ltb, le-ltb, eq-eqb, ne-eqb}
-use lib.Dec.{eqb, ltb}
+use lib.Dec.{ltb}
 use lib.IntN.{ℤ}
 use lib.ListN.{length}
-use Rattle.number.proofs.GrammarParts.{by-test}
-use Rattle.sheet.specs.RecordA.{recordA, headerOf, faultOf}
-use Rattle.sheet.specs.declared.record_a.Checked.{Checked}
+use Rattle.sheet.specs.RecordA.{recordA, headerOf}
 use Rattle.sheet.specs.declared.record_a.Checked.the-variants.{Sheet, Refused}
 use Rattle.sheet.specs.declared.record_a.Header.{Header}
 use Rattle.sheet.proofs.RulesA.{sheet-header}
@@ -18,6 +16,7 @@ use Rattle.load.specs.Deliver.{cellsOf, zOf}
 use Rattle.written.specs.Blocks.{sheetCells}
 use Rattle.written.specs.Cells.{sendable}
 use Rattle.written.specs.Sending.{gridFault, sheetFault}
+use Rattle.written.proofs.SheetPasses.{refused-kind}
 use Rattle.send.specs.SendSteps.{judgedBy}
 use Rattle.send.specs.declared.one_block.Judged.the-variants.{Good, Bad}
 
@@ -38,42 +37,20 @@ module _ (h : Header) (grid : List ℤ) where
 
 -- ---- the template
 
--- a refusal's number by its case
-abbrev refusal : Checked → ℕ
-refusal (Sheet h) = 0
-refusal (Refused kind byte) = 1
+module _ (template : List ℕ) (grid : List ℤ) where
+  pub template-length : (length template ≡ 1024 → ⊥) → Bad 1 1 ≡ judgedBy (headerOf template) (sheetFault template grid)
+  unfolding sheetFault
+  template-length n = rw (ne-eqb (length template) 1024 n)
 
-abbrev kind-of : Checked → ℕ
-kind-of (Sheet h) = 0
-kind-of (Refused kind byte) = kind
-
-module _ (template : List ℕ) where
-  -- a refusal has a kind
-  refused-kind : (kind byte : ℕ) → recordA template ≡ Refused kind byte → eqb kind 0 ≡ false
-  unfolding recordA
-  refused-kind kind byte e =
-      by-test (eqb (faultOf template .kind) 0)
-      (λ t.
-      let n : 0 ≡ 1 = ap refusal (rw t at e) in
-      absurd (omega (arith, n)))
-      (λ t.
-      let n : faultOf template .kind ≡ kind = ap kind-of (rw t at e) in
-      ap (λ (m : ℕ). eqb m 0) (sym n) ∙ t)
-
-  module _ (grid : List ℤ) where
-    pub template-length : (length template ≡ 1024 → ⊥) → Bad 1 1 ≡ judgedBy (headerOf template) (sheetFault template grid)
+  module _ (l : length template ≡ 1024) where
+    pub template-refused : (kind byte : ℕ) → recordA template ≡ Refused kind byte
+        → Bad kind byte ≡ judgedBy (headerOf template) (sheetFault template grid)
     unfolding sheetFault
-    template-length n = rw (ne-eqb (length template) 1024 n)
+    template-refused kind byte e = rw (eq-eqb (length template) 1024 l, e, ne-eqb kind 0 (refused-kind template kind byte e))
 
-    module _ (l : length template ≡ 1024) where
-      pub template-refused : (kind byte : ℕ) → recordA template ≡ Refused kind byte
-          → Bad kind byte ≡ judgedBy (headerOf template) (sheetFault template grid)
-      unfolding sheetFault
-      template-refused kind byte e = rw (eq-eqb (length template) 1024 l, e, refused-kind kind byte e)
-
-      pub template-sheet : (h : Header) → recordA template ≡ Sheet h
-          → judgedBy h (gridFault h grid) ≡ judgedBy (headerOf template) (sheetFault template grid)
-      unfolding sheetFault
-      template-sheet h e =
-          rw (eq-eqb (length template) 1024 l, e)
-          (ap (λ (g : Header). judgedBy g (gridFault h grid)) (sheet-header template e))
+    pub template-sheet : (h : Header) → recordA template ≡ Sheet h
+        → judgedBy h (gridFault h grid) ≡ judgedBy (headerOf template) (sheetFault template grid)
+    unfolding sheetFault
+    template-sheet h e =
+        rw (eq-eqb (length template) 1024 l, e)
+        (ap (λ (g : Header). judgedBy g (gridFault h grid)) (sheet-header template e))

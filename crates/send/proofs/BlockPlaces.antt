@@ -17,9 +17,9 @@ use Rattle.sheet.proofs.Cases.{real-small}
 use Rattle.sheet.proofs.LatticeLaws.{first-real}
 use Rattle.session.specs.Session.{headerObeys}
 use Rattle.session.proofs.Facts.{Heading, header-facts}
-use Rattle.written.specs.Blocks.{xSent}
+use Rattle.written.specs.Blocks.{xSent, yOfRow}
 use Rattle.written.proofs.PlacesSent.{x-fits, y-fits}
-use Rattle.send.specs.BlockSteps.{PlaceAsked, yOfRow}
+use Rattle.send.specs.BlockSteps.{PlaceAsked}
 
 module _ (h : Header) (obeys : headerObeys h ≡ true) where
   facts : Heading h

@@ -23,7 +23,7 @@ use Rattle.meaning.proofs.Joined.{Extends, join-extends}
 use Rattle.spell.specs.Spell.{integerText, integerFits, realFits}
 use Rattle.spell.proofs.Fits.{integer-length}
 use Rattle.written.specs.Cells.{canSend, sendable, postOf, columnCells, cellsSent, startSent, blockCount, columnWith}
-use Rattle.written.specs.Blocks.{sheetCells, xSent, ySent, headText, postsText, filledUp, blockZero, profileBlock, blockSent}
+use Rattle.written.specs.Blocks.{sheetCells, xSent, ySent, headText, postsText, filledUp, blockZero, profileBlock, blockSent, piecesBy}
 use Rattle.written.specs.Sending.{sheetFault, blockFault, blockAfter, countOf, sentText}
 use Rattle.written.proofs.ColumnsSent.{sendable-sent, each-sends, all-send}
 use Rattle.written.proofs.PlacesSent.{x-fits, y-sent-fits, least-fits, greatest-fits}
@@ -31,10 +31,10 @@ use Rattle.written.proofs.SheetSent.{column-length, column-sendable, sheet-leng
 use Rattle.send.specs.ProfileSteps.{countsBy, realsBy}
 use Rattle.send.specs.SendSteps.{SendableSheet, sheetSentFault, sheetAfter}
 use Rattle.send.specs.WholeSteps.{FitAsked}
-use Rattle.send.specs.ZeroSteps.{piecesBy, zeroBy, numbersBy, stretchAt, pieceBy}
+use Rattle.send.specs.ZeroSteps.{zeroBy, numbersBy, stretchAt, pieceBy}
+use Rattle.send.proofs.AnswerLaws.{fine-fits}
 use Rattle.send.proofs.ProfileText.{counts-length, reals-length, head-pieces, sent-fits}
 use Rattle.send.proofs.ScanLaws.{posts-most}
-use Rattle.send.proofs.WholeJudged.{fine-fits}
 use Rattle.send.proofs.WholeText.{sizes, joined-more}
 use Rattle.send.proofs.ZeroLaws.{zero-sent}
 use Rattle.send.proofs.ZeroWalk.{Written, written-start, written-turn, written-end, all-fit}

@@ -6,10 +6,10 @@ use lib.IntN.{ℤ}
 use Rattle.sheet.specs.RecordA.{columnsOf}
 use Rattle.sheet.specs.declared.record_a.Header.{Header}
 use Rattle.meaning.specs.Rules.{leastStated, greatestStated}
-use Rattle.written.specs.Blocks.{sheetCells, piecesA, blockZero}
-use Rattle.send.specs.ZeroSteps.{piecesBy, zeroBy}
+use Rattle.written.specs.Blocks.{sheetCells, blockZero}
+use Rattle.send.specs.ZeroSteps.{zeroBy}
 
 pub zero-sent : (template : List ℕ) (h : Header) (grid : List ℤ)
     → zeroBy template h (leastStated (sheetCells h grid)) (greatestStated (sheetCells h grid)) (columnsOf h) ≡ blockZero template h grid
-unfolding zeroBy piecesBy blockZero piecesA
+unfolding zeroBy blockZero
 zero-sent template h grid = refl

@@ -19,9 +19,9 @@ use Rattle.laws.proofs.Tables.{all-at, and-left, and-right}
 use Rattle.sheet.specs.declared.record_a.Header.{Header}
 use Rattle.spell.specs.Spell.{integerFits, realFits}
 use Rattle.spell.proofs.Fits.{integer-length, real-length}
-use Rattle.written.specs.Blocks.{Piece, pieceText}
+use Rattle.written.specs.Blocks.{Piece, pieceText, piecesBy}
 use Rattle.written.specs.Blocks.Piece.{keeps, whole, real, spacing}
-use Rattle.send.specs.ZeroSteps.{piecesBy, Stretch, stretches, blockEnd, stretchAt, numberIn, textBy, within, pieceBy}
+use Rattle.send.specs.ZeroSteps.{Stretch, stretches, blockEnd, stretchAt, numberIn, textBy, within, pieceBy}
 
 -- ---- the columns
 

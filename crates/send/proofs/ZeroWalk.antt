@@ -24,8 +24,8 @@ use Rattle.spell.specs.Spell.{integerFits, realFits}
 use Rattle.spell.proofs.Fits.{fits-real, integer-fits, whole-spacing-fits, fine-spacing-fits, thousands-fit}
 use Rattle.spell.proofs.Texts.{minus-short}
 use Rattle.meaning.specs.Text.{joined}
-use Rattle.written.specs.Blocks.{Piece, pieceText}
-use Rattle.send.specs.ZeroSteps.{piecesBy, zeroBy, stretchAt, numberIn, numbersBy, within, textBy, pieceBy}
+use Rattle.written.specs.Blocks.{Piece, pieceText, piecesBy}
+use Rattle.send.specs.ZeroSteps.{zeroBy, stretchAt, numberIn, numbersBy, within, textBy, pieceBy}
 use Rattle.send.proofs.ZeroTable.{nothing, fits, text-is, text-length, pieces-many, piece-suits, stretch-inside, stretch-next, first-start, last-end}
 
 -- ---- every number fits its field

@@ -1,6 +1,6 @@
 -- How the code writes block 0: its stretches as columns of numbers, one entry for each, and the text that one turn puts there.
 use mathlib.Core.Bool.{Bool, cond}
-use mathlib.Core.List.{List, [], _∷_, _++_, map}
+use mathlib.Core.List.{List, [], _∷_, map}
 use Prim.Native.Nat.{ℕ}
 use borrow.Rule.Slice.PartMut.{putMid}
 use lib.Dec.{eqb}
@@ -9,37 +9,10 @@ use lib.ListN.{length, take, drop, getD}
 use Rattle.sheet.specs.declared.record_a.Header.{Header}
 use Rattle.meaning.specs.Text.{joined}
 use Rattle.spell.specs.Spell.{integerText, integerFits, realText, realFits}
-use Rattle.written.specs.Blocks.{Piece, pieceText, cornerPieces}
+use Rattle.written.specs.Blocks.{Piece, pieceText, piecesBy}
 use Rattle.written.specs.Blocks.Piece.{keeps, whole, real, spacing}
 
--- the pieces of block 0, with the extremes and the columns as they are handed over
-unfoldable pub piecesBy : Header → ℤ → ℤ → ℕ → List Piece
-piecesBy h least greatest columns =
-    keeps 1 144
-    ∷ whole (h .level)
-    ∷ whole 1
-    ∷ whole (h .system)
-    ∷ whole (h .zone)
-    ∷ keeps 169 360
-    ∷ whole (h .ground)
-    ∷ whole (h .vertical)
-    ∷ whole 4
-    ∷ (cornerPieces (h .sw)
-    ++ (cornerPieces (h .nw)
-    ++ (cornerPieces (h .ne)
-    ++ (cornerPieces (h .se)
-    ++ (real least
-    ∷ real greatest
-    ∷ real (pos 0)
-    ∷ whole 0
-    ∷ spacing (h .xstep)
-    ∷ spacing (h .ystep)
-    ∷ spacing (h .zstep)
-    ∷ whole 1
-    ∷ whole columns
-    ∷ keeps 865 160
-    ∷ [])))))
-
+-- block 0, with the extremes and the columns as they are handed over
 unfoldable pub zeroBy : List ℕ → Header → ℤ → ℤ → ℕ → List ℕ
 zeroBy template h least greatest columns = joined (map (pieceText template) (piecesBy h least greatest columns))
 

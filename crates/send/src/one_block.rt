@@ -13,10 +13,10 @@ ghost use Rattle.sheet.specs.RecordA.{columnsOf, rowsOf, headerOf};
 ghost use Rattle.session.specs.Session.{headerObeys};
 ghost use Rattle.load.specs.Deliver.{zOf};
 ghost use Rattle.written.specs.Cells.{blockCount};
-ghost use Rattle.written.specs.Blocks.{blockZero, profileBlock, xSent};
+ghost use Rattle.written.specs.Blocks.{blockZero, profileBlock, xSent, yOfRow};
 ghost use Rattle.written.specs.Sending.{gridFault, sheetFault};
 ghost use Rattle.send.specs.SendSteps.{judgedBy, SendableSheet, ProfileAsked, ZeroAsked};
-ghost use Rattle.send.specs.BlockSteps.{PlaceAsked, yOfRow};
+ghost use Rattle.send.specs.BlockSteps.{PlaceAsked};
 
 // A sheet that can be sent, or document 01's kind and number of what stands against it.
 pub(crate) enum Judged {

@@ -1,3 +1,4 @@
 pub mod ColumnsSent
 pub mod SheetSent
 pub mod PlacesSent
+pub mod SheetPasses

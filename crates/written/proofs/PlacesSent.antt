@@ -30,7 +30,7 @@ use Rattle.load.specs.Posts.{void, sameZ}
 use Rattle.load.specs.Deliver.{cellsOf}
 use Rattle.meaning.specs.Rules.{filledOnly, leastOf, greatestOf, leastStated, greatestStated}
 use Rattle.written.specs.Cells.{canSend, sendable, quotientFits, columnCells, firstRow}
-use Rattle.written.specs.Blocks.{xSent, ySent}
+use Rattle.written.specs.Blocks.{xSent, yOfRow, ySent}
 use Rattle.written.proofs.ColumnsSent.{some-cells, cells-room, EachSends, each-sends}
 use Rattle.written.proofs.SheetSent.{column-length}
 
@@ -84,10 +84,6 @@ spacing-some s r = omega (arith, r .least)
 
 spacing-whole : (s : ℕ) → Ranged billion (9999 * billion) billion s → s % 10 ^ 3 ≡ 0
 spacing-whole s r = omega (arith, r .step)
-
--- the y of a row
-abbrev pub yOfRow : Header → ℕ → ℤ
-yOfRow h r = (latticeOf (south h) (north h) (h .ystep) .first +ℤ pos r) *ℤ pos (h .ystep)
 
 module _ (h : Header) (obeys : headerObeys h ≡ true) where
   facts : Heading h

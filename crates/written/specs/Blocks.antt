@@ -39,9 +39,9 @@ abbrev pub sheetCells : Header → List ℤ → List ℤ
 sheetCells h grid = take (cellsOf h) grid
 
 -- "the template with numeric fields rewritten, n set to the columns, extremes worked out, accuracy 0; text, bytes 169-528 and
--- 865-1024 stay", in the order of record A's table
-unfoldable pub piecesA : Header → List ℤ → List Piece
-piecesA h grid =
+-- 865-1024 stay", in the order of record A's table: by the extremes and the columns
+unfoldable pub piecesBy : Header → ℤ → ℤ → ℕ → List Piece
+piecesBy h least greatest columns =
     keeps 1 144
     ∷ whole (h .level)
     ∷ whole 1
@@ -55,17 +55,20 @@ piecesA h grid =
     ++ (cornerPieces (h .nw)
     ++ (cornerPieces (h .ne)
     ++ (cornerPieces (h .se)
-    ++ (real (leastStated (sheetCells h grid))
-    ∷ real (greatestStated (sheetCells h grid))
+    ++ (real least
+    ∷ real greatest
     ∷ real (pos 0)
     ∷ whole 0
     ∷ spacing (h .xstep)
     ∷ spacing (h .ystep)
     ∷ spacing (h .zstep)
     ∷ whole 1
-    ∷ whole (columnsOf h)
+    ∷ whole columns
     ∷ keeps 865 160
     ∷ [])))))
+
+abbrev pub piecesA : Header → List ℤ → List Piece
+piecesA h grid = piecesBy h (leastStated (sheetCells h grid)) (greatestStated (sheetCells h grid)) (columnsOf h)
 
 unfoldable pub blockZero : List ℕ → Header → List ℤ → List ℕ
 blockZero template h grid = joined (map (pieceText template) (piecesA h grid))
@@ -76,8 +79,11 @@ blockZero template h grid = joined (map (pieceText template) (piecesA h grid))
 abbrev pub xSent : Header → ℕ → ℤ
 xSent h c = (latticeOf (west h) (east h) (h .xstep) .first +ℤ pos c) *ℤ pos (h .xstep)
 
+abbrev pub yOfRow : Header → ℕ → ℤ
+yOfRow h row = (latticeOf (south h) (north h) (h .ystep) .first +ℤ pos row) *ℤ pos (h .ystep)
+
 abbrev pub ySent : Header → List ℤ → ℕ → ℤ
-ySent h grid c = (latticeOf (south h) (north h) (h .ystep) .first +ℤ pos (firstRow (columnCells h grid c))) *ℤ pos (h .ystep)
+ySent h grid c = yOfRow h (firstRow (columnCells h grid c))
 
 -- "datum zero"; the nine fields at the head of record B
 abbrev pub headText : Header → List ℤ → ℕ → List ℕ

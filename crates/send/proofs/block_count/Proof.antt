@@ -1,6 +1,6 @@
 -- How many blocks: none of a sheet that is refused.
 use mathlib.Core.Path.{sym, _∙_}
-use Rattle.send.proofs.AnswerLaws.{good-sheet, good-count, bad-count}
+use Rattle.send.proofs.AnswerLaws.{good-fits, good-count, bad-count}
 use borrow.Author.Needs.{needs}
 use Rattle.send.proofs.block_count.Statement.{statement}
 use Rattle.send.proofs.block_count.Tie as tie
@@ -17,8 +17,8 @@ enum-known-judged-2 c = search needs
 count-of-requires : tie.Need-count-of-requires
 count-of-requires c κs =
     let o = c .before .before .before .before .before in
-    good-sheet (o .args .template .now) (o .args .grid .now) (c .before .judged2 .given .0 .0)
-    (sym (c .before .judged2 .given .1) ∙ c .before .before .before .judge-sheet .ensures)
+    good-fits (o .args .template .now) (o .args .grid .now) (c .before .judged2 .given .0 .0)
+    (sym (c .before .judged2 .given .1) ∙ c .before .before .before .judge-sheet .ensures) .sheet
 
 returns : tie.Need-returns
 returns c =

@@ -1,6 +1,7 @@
 -- Judged, and written where nothing stands against it: WholeJudged has each answer.
 use mathlib.Core.Path.{sym, _∙_}
-use Rattle.send.proofs.WholeJudged.{good-fits, sheet-refused, sheet-sent}
+use Rattle.send.proofs.AnswerLaws.{good-fits}
+use Rattle.send.proofs.WholeJudged.{sheet-refused, sheet-sent}
 use borrow.Author.Needs.{needs}
 use Rattle.send.proofs.write_sheet.Statement.{statement}
 use Rattle.send.proofs.write_sheet.Tie as tie
@@ -19,7 +20,7 @@ write-fitting-requires c κs =
     let k = c .before .before in
     let j = k .before .before in
     let a = j .before .before .before .args in
-    good-fits (a .template .now) (a .grid .now) (k .judged2 .given .0 .0) (sym (j .judge-sheet .ensures) ∙ k .judged2 .given .1)
+    good-fits (a .template .now) (a .grid .now) (k .judged2 .given .0 .0) (sym (k .judged2 .given .1) ∙ j .judge-sheet .ensures)
 
 returns : tie.Need-returns
 returns c =
@@ -27,7 +28,7 @@ returns c =
     let j = k .before .before in
     let a = j .before .before .before .args in
     sheet-refused (a .template .now) (a .grid .now) (a .out .now) (k .judged .given .0 .0) (k .judged .given .0 .1 .0)
-    (sym (j .judge-sheet .ensures) ∙ k .judged .given .1)
+    (sym (k .judged .given .1) ∙ j .judge-sheet .ensures)
 
 same-length : tie.Need-same-length
 same-length c = search needs
@@ -39,7 +40,7 @@ returns-2 c =
     let j = k .before .before in
     let a = j .before .before .before .args in
     sheet-sent (a .template .now) (a .grid .now) (a .out .now) (w .write-fitting .last .1 .1 .1 .0) (w .write-fitting .result)
-    (k .judged2 .given .0 .0) (sym (j .judge-sheet .ensures) ∙ k .judged2 .given .1)
+    (k .judged2 .given .0 .0) (sym (k .judged2 .given .1) ∙ j .judge-sheet .ensures)
     (w .write-fitting .ensures .0) (w .write-fitting .ensures .1)
 
 pub write-sheet-spec : {M : Type 1} → statement M

@@ -10,10 +10,9 @@ use Rattle.sheet.specs.RecordA.{rowsOf}
 use Rattle.load.specs.Deliver.{zOf}
 use Rattle.meaning.specs.Rules.{leastStated, greatestStated}
 use Rattle.spell.specs.Spell.{realFits}
-use Rattle.written.specs.Blocks.{xSent}
+use Rattle.written.specs.Blocks.{xSent, yOfRow}
 use Rattle.written.specs.Cells.{cellsSent}
 use Rattle.written.proofs.PlacesSent.{x-fits, y-fits, least-fits, greatest-fits}
-use Rattle.send.specs.BlockSteps.{yOfRow}
 use Rattle.send.proofs.BlockCells.{
   z-range,
   row-below,

@@ -3,7 +3,8 @@ use mathlib.Core.List.{_∷_, []}
 use mathlib.Core.Path.{refl}
 use native.Mathlib.Omega.{arith}
 use lib.IntN.{pos}
-use Rattle.send.specs.ZeroSteps.{piecesBy, numbersBy}
+use Rattle.written.specs.Blocks.{piecesBy}
+use Rattle.send.specs.ZeroSteps.{numbersBy}
 use Rattle.send.proofs.ZeroTable.{told}
 use Rattle.send.proofs.ZeroWalk.{modest}
 use borrow.Author.Needs.{needs}
