@@ -7,14 +7,13 @@ use native.Mathlib.Nat.{mod-one}
 use native.Mathlib.Omega.{arith}
 use borrow.Author.Tests.{le-leb, eq-eqb}
 use lib.IntN.{ℤ, pos}
-use lib.ListN.{length, take, drop, getD, replicate, length-append}
+use lib.ListN.{length, take, drop, getD, replicate}
 use lib.Seq.{take-at, drop-append-add}
 use Rattle.laws.proofs.Tests.{and-both}
 use Rattle.number.specs.declared.Reading.{Reading}
 use Rattle.number.specs.Integer.{integer, read}
 use Rattle.number.specs.Real.{real}
-use Rattle.spell.specs.Spell.{integerText, integerFits, realText, realFits}
-use Rattle.spell.proofs.Fits.{integer-length, integer-fits, real-length, thousands-fit}
+use Rattle.spell.specs.Spell.{integerText, realText, realFits}
 use Rattle.spell.proofs.ReadBack.{integer-back, real-back}
 use Rattle.sheet.specs.Lattice.{notNegative}
 use Rattle.sheet.specs.RecordA.{stretch, fault, limits, inRange, ranged, wholeAt, realAt}
@@ -25,23 +24,13 @@ use Rattle.load.specs.Deliver.{zOf}
 use Rattle.meaning.specs.Rules.{leastStated, greatestStated}
 use Rattle.written.specs.Cells.{cellsSent}
 use Rattle.written.specs.Blocks.{xSent, ySent, headText, postsText, profileBlock}
-use Rattle.returns.proofs.PostsRead.{AllSent, block-length}
+use Rattle.written.proofs.PiecesSent.{small-fits, zero-fits}
+use Rattle.written.proofs.PostsSent.{AllSent, profile-length}
+use Rattle.written.proofs.HeadSent.{onto, total, HeadFits, headPieces, head-lengths, head-length}
 
 -- ---- pieces one behind the other, and a text behind them
 
-abbrev pub onto : List (List ℕ) → List ℕ → List ℕ
-onto [] after = after
-onto (p ∷ ps) after = p ++ onto ps after
-
-abbrev pub total : List (List ℕ) → ℕ
-total [] = 0
-total (p ∷ ps) = length p + total ps
-
-pub onto-length : (ps : List (List ℕ)) (after : List ℕ) → length (onto ps after) ≡ total ps + length after
-onto-length [] after = omega arith
-onto-length (p ∷ ps) after = omega (arith, length-append p (onto ps after), onto-length ps after)
-
-pub onto-append : (ps : List (List ℕ)) (a b : List ℕ) → onto ps a ++ b ≡ onto ps (a ++ b)
+onto-append : (ps : List (List ℕ)) (a b : List ℕ) → onto ps a ++ b ≡ onto ps (a ++ b)
 onto-append [] a b = refl
 onto-append (p ∷ ps) a b = append-assoc p (onto ps a) b ∙ ap (λ (x : List ℕ). p ++ x) (onto-append ps a b)
 
@@ -50,7 +39,7 @@ past-pieces [] after = refl
 past-pieces (p ∷ ps) after = drop-append-add p (onto ps after) (total ps) ∙ past-pieces ps after
 
 -- a piece stands behind those before it
-pub piece-at : (first width : ℕ) (ps : List (List ℕ)) (piece after : List ℕ) → total ps ≡ first - 1 → length piece ≡ width
+piece-at : (first width : ℕ) (ps : List (List ℕ)) (piece after : List ℕ) → total ps ≡ first - 1 → length piece ≡ width
     → stretch first width (onto ps (piece ++ after)) ≡ piece
 piece-at first width ps piece after e l =
     ap (take width) (ap (λ (n : ℕ). drop n (onto ps (piece ++ after))) (sym e) ∙ past-pieces ps (piece ++ after))
@@ -58,18 +47,8 @@ piece-at first width ps piece after e l =
 
 -- ---- numbers that fit their fields
 
--- "m, 1-2048" and what is less
-small-fits : (n : ℕ) → n ≤ 2048 → integerFits 6 (pos n) ≡ true
-small-fits n h = integer-fits 5 6 (pos n) (omega arith) (omega arith) (omega (arith, h)) (omega arith)
-
-small-length : (n : ℕ) → n ≤ 2048 → length (integerText 6 (pos n)) ≡ 6
-small-length n h = integer-length 6 (pos n) (small-fits n h)
-
 small-back : (n : ℕ) → n ≤ 2048 → integer (integerText 6 (pos n)) ≡ read (pos n)
-small-back n h = integer-back 6 (pos n) (omega arith) (omega arith) (small-fits n h)
-
-zero-fits : realFits 15 24 (pos 0) ≡ true
-zero-fits = thousands-fit (pos 0) (omega arith) (omega arith)
+small-back n h = integer-back 6 (pos n) (omega arith) (omega arith) (small-fits n (omega (arith, h)))
 
 in-range : (least greatest kind n : ℕ) → least ≤ n → n ≤ greatest → ranged (limits least greatest 1 kind) (read (pos n)) .kind ≡ 0
 in-range least greatest kind n l g =
@@ -82,12 +61,7 @@ value r = r .value
 
 -- ---- the head
 
-module _ (h : Header) (grid : List ℤ) (c : ℕ) (column : suc c ≤ 2048)
-    (one : 1 ≤ length (cellsSent h grid c)) (most : length (cellsSent h grid c) ≤ 2048)
-    (x-fits : realFits 15 24 (xSent h c) ≡ true)
-    (y-fits : realFits 15 24 (ySent h grid c) ≡ true)
-    (least-fits : realFits 15 24 (leastStated (cellsSent h grid c)) ≡ true)
-    (greatest-fits : realFits 15 24 (greatestStated (cellsSent h grid c)) ≡ true) where
+module _ (h : Header) (grid : List ℤ) (c : ℕ) (fits : HeadFits h grid c) where
   abbrev m : ℕ
   m = length (cellsSent h grid c)
 
@@ -97,46 +71,8 @@ module _ (h : Header) (grid : List ℤ) (c : ℕ) (column : suc c ≤ 2048)
   abbrev greatest : ℤ
   greatest = greatestStated (cellsSent h grid c)
 
-  -- the nine fields
   abbrev pieces : List (List ℕ)
-  pieces =
-      integerText 6 (pos 1)
-      ∷ integerText 6 (pos (suc c))
-      ∷ integerText 6 (pos m)
-      ∷ integerText 6 (pos 1)
-      ∷ realText 15 68 24 (xSent h c)
-      ∷ realText 15 68 24 (ySent h grid c)
-      ∷ realText 15 68 24 (pos 0)
-      ∷ realText 15 68 24 least
-      ∷ realText 15 68 24 greatest
-      ∷ []
-
-  -- how long each is
-  abbrev Lengths : Type 0
-  Lengths =
-      (length (integerText 6 (pos 1)) ≡ 6)
-      × (length (integerText 6 (pos (suc c))) ≡ 6)
-      × (length (integerText 6 (pos m)) ≡ 6)
-      × (length (realText 15 68 24 (xSent h c)) ≡ 24)
-      × (length (realText 15 68 24 (ySent h grid c)) ≡ 24)
-      × (length (realText 15 68 24 (pos 0)) ≡ 24)
-      × (length (realText 15 68 24 least) ≡ 24)
-      × (length (realText 15 68 24 greatest) ≡ 24)
-
-  lengths : Lengths
-  lengths = (
-    small-length 1 (omega arith),
-    small-length (suc c) column,
-    small-length m most,
-    real-length 15 24 (xSent h c) 68 x-fits,
-    real-length 15 24 (ySent h grid c) 68 y-fits,
-    real-length 15 24 (pos 0) 68 zero-fits,
-    real-length 15 24 least 68 least-fits,
-    real-length 15 24 greatest 68 greatest-fits,
-  )
-
-  pub head-length : length (headText h grid c) ≡ 144
-  head-length = onto-length (take 8 pieces) (realText 15 68 24 greatest) ∙ omega (arith, lengths)
+  pieces = headPieces h grid c
 
   -- ---- the profile's first block
 
@@ -185,16 +121,16 @@ module _ (h : Header) (grid : List ℤ) (c : ℕ) (column : suc c ≤ 2048)
 
   readings : Readings
   readings =
-      let l = lengths in (
+      let l = head-lengths h grid c fits in (
         whole-there 1 1 (omega arith) (field 1 6 0 refl refl (l .0)),
-        whole-there 7 (suc c) column (field 7 6 1 refl (omega (arith, l)) (l .1)),
-        whole-there 13 m most (field 13 6 2 refl (omega (arith, l)) (l .2)),
+        whole-there 7 (suc c) (fits .column) (field 7 6 1 refl (omega (arith, l)) (l .1)),
+        whole-there 13 m (fits .most) (field 13 6 2 refl (omega (arith, l)) (l .2)),
         whole-there 19 1 (omega arith) (field 19 6 3 refl (omega (arith, l)) (l .0)),
-        real-there 25 (xSent h c) x-fits (field 25 24 4 refl (omega (arith, l)) (l .3)),
-        real-there 49 (ySent h grid c) y-fits (field 49 24 5 refl (omega (arith, l)) (l .4)),
+        real-there 25 (xSent h c) (fits .x) (field 25 24 4 refl (omega (arith, l)) (l .3)),
+        real-there 49 (ySent h grid c) (fits .y) (field 49 24 5 refl (omega (arith, l)) (l .4)),
         real-there 73 (pos 0) zero-fits (field 73 24 6 refl (omega (arith, l)) (l .5)),
-        real-there 97 least least-fits (field 97 24 7 refl (omega (arith, l)) (l .6)),
-        real-there 121 greatest greatest-fits (field 121 24 8 refl (omega (arith, l)) (l .7)),
+        real-there 97 least (fits .least) (field 97 24 7 refl (omega (arith, l)) (l .6)),
+        real-there 121 greatest (fits .greatest) (field 121 24 8 refl (omega (arith, l)) (l .7)),
       )
 
   pub head-is : headOf (profileBlock h grid c 0)
@@ -231,9 +167,9 @@ module _ (h : Header) (grid : List ℤ) (c : ℕ) (column : suc c ≤ 2048)
         r .7,
         r .8,
         eq-eqb (ranged (limits (suc c) (suc c) 1 9) (read (pos (suc c))) .kind) 0 (in-range (suc c) (suc c) 9 (suc c) (omega arith) (omega arith)),
-        eq-eqb (ranged (limits 1 2048 1 7) (read (pos m)) .kind) 0 (in-range 1 2048 7 m one most),
+        eq-eqb (ranged (limits 1 2048 1 7) (read (pos m)) .kind) 0 (in-range 1 2048 7 m (fits .some) (fits .most)),
       )
 
-  pub head-fine : 1 ≤ zOf h → AllSent (zOf h) (cellsSent h grid c) → headFault (suc c) (profileBlock h grid c 0) .kind ≡ 0
-  head-fine some all =
-      rw (eq-eqb (length block) 1024 (block-length h grid c some all head-length 0)) (ap (λ (f : Fault). f .kind) fields-fine)
+  pub head-fine : AllSent (zOf h) (cellsSent h grid c) → headFault (suc c) (profileBlock h grid c 0) .kind ≡ 0
+  head-fine all =
+      rw (eq-eqb (length block) 1024 (profile-length h grid c all (head-length h grid c fits) 0)) (ap (λ (f : Fault). f .kind) fields-fine)

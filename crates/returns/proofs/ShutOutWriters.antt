@@ -3,24 +3,23 @@
 use mathlib.Core.Bool.{Bool, true, false, cond}
 use mathlib.Core.List.{List, [], _∷_}
 use mathlib.Core.Path.{_≡_, refl, sym, _∙_, ap}
-use Prim.Native.Nat.{ℕ, _^_, _≤_, _<_}
+use Prim.Native.Nat.{ℕ, _≤_, _<_}
 use native.Mathlib.Omega.{arith}
-use borrow.Author.Tests.{ltb-true, ne-eqb}
+use borrow.Author.Tests.{ne-eqb}
 use lib.Dec.{ltb, eqb}
-use lib.IntN.{ℤ, pos, natAbs}
+use lib.IntN.{ℤ, pos}
 use lib.ListN.{length, getD, replicate}
 use Rattle.laws.specs.Digits.{places, short}
-use Rattle.laws.specs.Sign.{_and_}
-use Rattle.laws.proofs.Tests.{clash, and-both}
+use Rattle.laws.proofs.Tables.{all}
+use Rattle.laws.proofs.Tests.{clash}
 use Rattle.number.specs.Integer.{integer}
 use Rattle.number.specs.Real.{real, billionths}
 use Rattle.sheet.specs.Lattice.{latticeOf}
 use Rattle.sheet.specs.RecordA.{recordA, fields, headerOf, columnsOf}
-use Rattle.sheet.specs.declared.record_a.Corner.{Corner}
 use Rattle.sheet.specs.declared.record_a.Header.{Header}
-use Rattle.session.specs.Session.{isRealNumber, cornerReal, headerObeys, sound}
+use Rattle.session.specs.Session.{headerObeys, sound}
 use Rattle.session.specs.declared.Session.{Session}
-use Rattle.session.proofs.Facts.{Heading, header-facts, split}
+use Rattle.session.proofs.Facts.{header-facts}
 use Rattle.load.specs.Deliver.{cellsOf, zOf, complete, verdictOf, deliverOf}
 use Rattle.load.specs.declared.Answer.{Answer}
 use Rattle.load.specs.declared.Answer.the-variants.{Taken, Held, Refused}
@@ -30,16 +29,13 @@ use Rattle.meaning.specs.Deliveries.{Reader, Keeps, Delivery, Desk, answered}
 use Rattle.meaning.specs.PaperSheet.{paperA, paperCells}
 use Rattle.meaning.specs.Rules.{leastStated, greatestStated}
 use Rattle.spell.specs.Spell.{spell, count, integerText, realFits}
-use Rattle.spell.proofs.Fits.{fits-real, whole-spacing-fits, fine-spacing-fits, thousands-fit}
-use Rattle.spell.proofs.Texts.{minus-short}
-use Rattle.written.specs.Cells.{canSend, sendable, voidsBefore, upToLast, profileCells, columnCells, cellsSent, startSent, columnWith}
-use Rattle.written.specs.Blocks.{Piece, sheetCells, piecesBy, piecesA, blockZero, xSent, ySent, profileBlock, blockSent}
-use Rattle.written.specs.Blocks.Piece.{keeps as keeps·sent, whole, real as real·sent, spacing}
+use Rattle.written.specs.Cells.{canSend, sendable, voidsBefore, upToLast, profileCells, cellsSent, startSent, columnWith}
+use Rattle.written.specs.Blocks.{sheetCells, piecesBy, piecesA, blockZero, xSent, ySent, profileBlock, blockSent}
 use Rattle.written.specs.Sending.{Fault, fault, sheetFault, blockFault}
 use Rattle.returns.specs.Writers.{Writer, KeepsWriting, CanBeSent}
-use Rattle.written.proofs.ColumnsSent.{sendable-sent}
-use Rattle.written.proofs.SheetSent.{column-length, column-sendable, sheet-length}
-use Rattle.written.proofs.PlacesSent.{x-fits, y-sent-fits, least-fits, greatest-fits}
+use Rattle.written.proofs.PiecesSent.{pieceFits, CornerFits, header-reals, zero-fits, all-fit}
+use Rattle.written.proofs.HeadSent.{HeadFits}
+use Rattle.written.proofs.BlocksSent.{head-fits, sheet-least, sheet-greatest}
 use Rattle.returns.proofs.Accepted.{all-cells}
 
 -- ---- the paper's sheet, sent
@@ -142,37 +138,10 @@ none-when-complete r keeps k d some done t =
 
 -- ---- "No written real can need more than 15 digits (6 in the spacings)"
 
--- both numbers of a corner fit
-abbrev pub CornerFits : Corner → Type 0
-CornerFits c = (realFits 15 24 (c .x) ≡ true) × (realFits 15 24 (c .y) ≡ true)
-
--- what a header's real can hold fits its field again
-number-fits : (z : ℤ) → isRealNumber z ≡ true → realFits 15 24 z ≡ true
-number-fits z t =
-    let a = split (ltb (natAbs z) (10 ^ 18)) _ t in
-    fits-real 15 24 z
-    (record { modest = ltb-true (natAbs z) (10 ^ 18) (a .0); few = a .1; room = omega (arith, minus-short z) })
-
-corner-fits : (c : Corner) → cornerReal c ≡ true → CornerFits c
-corner-fits c t =
-    let a = split (isRealNumber (c .x)) _ t in
-    (number-fits (c .x) (a .0), number-fits (c .y) (a .1))
-
--- a piece of block 0 fits: a real 15 digits in 24 bytes, a spacing 6 digits in 12
-abbrev pub pieceFits : Piece → Bool
-pieceFits (keeps·sent first width) = true
-pieceFits (whole n) = true
-pieceFits (real·sent z) = realFits 15 24 z
-pieceFits (spacing v) = realFits 6 12 (pos v)
-
-abbrev pub allFit : List Piece → Bool
-allFit [] = true
-allFit (p ∷ ps) = pieceFits p and allFit ps
-
 -- the reals of every written block: those of block 0, piece by piece and by name (corners, extremes, the angle zero, the spacings), and
 -- those of each profile (the place of its southern post, the datum zero, its extremes)
 pub record RealsFit (h : Header) (grid : List ℤ) : Type 0 where
-  pub block-zero : allFit (piecesA h grid) ≡ true
+  pub block-zero : all pieceFits (piecesA h grid) ≡ true
   pub sw : CornerFits (h .sw)
   pub nw : CornerFits (h .nw)
   pub ne : CornerFits (h .ne)
@@ -195,92 +164,30 @@ module _ (template : List ℕ) (grid : List ℤ) (can : CanBeSent template grid)
   obeys : headerObeys h ≡ true
   obeys = sheet-obeys template h (can .sheet)
 
-  facts : Heading h
-  facts = header-facts h obeys
-
-  all : sendable (zOf h) (sheetCells h grid) ≡ cellsOf h
-  all = all-cells template grid can
-
-  -- every cell of a column's profile can be sent
-  sent-all : (c : ℕ) → c < columnsOf h → sendable (zOf h) (cellsSent h grid c) ≡ length (cellsSent h grid c)
-  sent-all c lt =
-      let l = column-length h grid (can .room) c lt in
-      sendable-sent (zOf h) (columnCells h grid c) (omega (arith, l, facts .rows .0))
-      (column-sendable h grid (can .room) (zOf h) all c lt ∙ sym l)
-
-  sheet-all : sendable (zOf h) (sheetCells h grid) ≡ length (sheetCells h grid)
-  sheet-all = all ∙ sym (sheet-length h grid (can .room))
-
-  sw-fits : CornerFits (h .sw)
-  sw-fits = corner-fits (h .sw) (split (cornerReal (h .sw)) _ (facts .reals) .0)
-
-  past-sw : (cornerReal (h .nw) and cornerReal (h .ne) and cornerReal (h .se) and isRealNumber (h .least) and isRealNumber (h .greatest)) ≡ true
-  past-sw = split (cornerReal (h .sw)) _ (facts .reals) .1
-
-  nw-fits : CornerFits (h .nw)
-  nw-fits = corner-fits (h .nw) (split (cornerReal (h .nw)) _ past-sw .0)
-
-  past-nw : (cornerReal (h .ne) and cornerReal (h .se) and isRealNumber (h .least) and isRealNumber (h .greatest)) ≡ true
-  past-nw = split (cornerReal (h .nw)) _ past-sw .1
-
-  ne-fits : CornerFits (h .ne)
-  ne-fits = corner-fits (h .ne) (split (cornerReal (h .ne)) _ past-nw .0)
-
-  se-fits : CornerFits (h .se)
-  se-fits = corner-fits (h .se) (split (cornerReal (h .se)) _ (split (cornerReal (h .ne)) _ past-nw .1) .0)
-
-  least-here : realFits 15 24 (leastStated (sheetCells h grid)) ≡ true
-  least-here = least-fits (zOf h) (facts .zstep .greatest) (sheetCells h grid) sheet-all
-
-  greatest-here : realFits 15 24 (greatestStated (sheetCells h grid)) ≡ true
-  greatest-here = greatest-fits (zOf h) (facts .zstep .greatest) (sheetCells h grid) sheet-all
-
-  nought-fits : realFits 15 24 (pos 0) ≡ true
-  nought-fits = thousands-fit (pos 0) (omega arith) refl
-
-  x-step-fits : realFits 6 12 (pos (h .xstep)) ≡ true
-  x-step-fits = let s = facts .xstep in whole-spacing-fits (h .xstep) (s .least) (s .greatest) (s .step)
-
-  y-step-fits : realFits 6 12 (pos (h .ystep)) ≡ true
-  y-step-fits = let s = facts .ystep in whole-spacing-fits (h .ystep) (s .least) (s .greatest) (s .step)
-
-  z-step-fits : realFits 6 12 (pos (h .zstep)) ≡ true
-  z-step-fits = let s = facts .zstep in fine-spacing-fits (h .zstep) (omega (arith, s .least)) (omega (arith, s .greatest, s .step)) (s .step)
-
-  pieces-fit : allFit (piecesA h grid) ≡ true
-  unfolding piecesBy
-  pieces-fit =
-      and-both (sw-fits .0)
-      (and-both (sw-fits .1)
-      (and-both (nw-fits .0)
-      (and-both (nw-fits .1)
-      (and-both (ne-fits .0)
-      (and-both (ne-fits .1)
-      (and-both (se-fits .0)
-      (and-both (se-fits .1)
-      (and-both least-here
-      (and-both greatest-here
-      (and-both nought-fits
-      (and-both x-step-fits (and-both y-step-fits (and-both z-step-fits refl)))))))))))))
+  every : sendable (zOf h) (sheetCells h grid) ≡ cellsOf h
+  every = all-cells template grid can
 
   -- every real of a written block fits 15 digits in its 24 bytes, every spacing 6 digits in its 12
   pub fifteen-digits : RealsFit h grid
   fifteen-digits =
-      let most = facts .zstep .greatest in
+      let r = header-reals h obeys in
+      let least = sheet-least h grid obeys (can .room) every in
+      let greatest = sheet-greatest h grid obeys (can .room) every in
+      let head : (c : ℕ) → c < columnsOf h → HeadFits h grid c = head-fits h grid obeys (can .room) every in
       record {
-        block-zero = pieces-fit;
-        sw = sw-fits;
-        nw = nw-fits;
-        ne = ne-fits;
-        se = se-fits;
-        least = least-here;
-        greatest = greatest-here;
-        nought = nought-fits;
-        x = x-fits h obeys;
-        y = y-sent-fits h obeys grid (can .room);
-        column-least = λ c lt. least-fits (zOf h) most (cellsSent h grid c) (sent-all c lt);
-        column-greatest = λ c lt. greatest-fits (zOf h) most (cellsSent h grid c) (sent-all c lt);
-        xstep = x-step-fits;
-        ystep = y-step-fits;
-        zstep = z-step-fits;
+        block-zero = all-fit h (leastStated (sheetCells h grid)) (greatestStated (sheetCells h grid)) (columnsOf h) obeys least greatest (header-facts h obeys .columns .1);
+        sw = r .sw;
+        nw = r .nw;
+        ne = r .ne;
+        se = r .se;
+        least = least;
+        greatest = greatest;
+        nought = zero-fits;
+        x = λ c lt. head c lt .x;
+        y = λ c lt. head c lt .y;
+        column-least = λ c lt. head c lt .least;
+        column-greatest = λ c lt. head c lt .greatest;
+        xstep = r .xstep;
+        ystep = r .ystep;
+        zstep = r .zstep;
       }

@@ -25,8 +25,7 @@ use Rattle.send.specs.ScanSteps.{Sizes, Finds, startAt}
 use Rattle.send.specs.SendSteps.{sentBy, judgedBy, ProfileAsked, ZeroAsked}
 use Rattle.send.specs.AnswerSteps.{LaterAsked, laterBlock, countFault, numbered}
 use Rattle.send.specs.WholeSteps.{FitAsked}
-use Rattle.send.proofs.ScanLaws.{start-sent, column-with}
-use Rattle.send.proofs.WholeText.{sizes}
+use Rattle.send.proofs.ScanLaws.{start-sent, column-with, sizes}
 
 -- ---- a sheet that nothing stands against can be sent
 

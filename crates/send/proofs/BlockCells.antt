@@ -6,26 +6,25 @@ use Prim.Native.Nat.{ℕ, zero, suc, _+_, _*_, _-_, min, _≤_, _<_}
 use native.Mathlib.Nat.{zero-min, min-zero, suc-min-suc, suc-mul, mul-le-mul, mul-le-mul-right}
 use native.Mathlib.Omega.{arith}
 use lib.IntN.{ℤ}
-use lib.ListN.{length, take, drop, length-take, length-drop}
-use lib.Seq.{take-nil, drop-drop, getD-take, getD-drop}
+use lib.ListN.{length, take, drop, length-take}
+use lib.Seq.{take-nil, drop-drop}
 use Rattle.sheet.specs.RecordA.{columnsOf, rowsOf}
 use Rattle.sheet.specs.declared.record_a.Header.{Header}
 use Rattle.session.specs.Session.{headerObeys}
 use Rattle.session.proofs.Facts.{Heading, header-facts}
-use Rattle.load.specs.Posts.{void}
 use Rattle.load.specs.Deliver.{zOf}
 use Rattle.meaning.specs.Rules.{leastStated, greatestStated}
 use Rattle.written.specs.Blocks.{sheetCells, blockZero, xSent, ySent, profileBlock, yOfRow}
-use Rattle.written.specs.Cells.{canSend, sendable, columnCells, cellsSent}
-use Rattle.written.proofs.ColumnsSent.{each-sends, all-send, sendable-sent}
-use Rattle.written.proofs.SheetSent.{column-length, column-sendable}
+use Rattle.written.specs.Cells.{sendable, columnCells, cellsSent}
+use Rattle.written.proofs.ColumnsSent.{some-cells}
+use Rattle.written.proofs.SheetSent.{column-length}
+use Rattle.written.proofs.PostsSent.{part-sends}
+use Rattle.written.proofs.BlocksSent.{sent-all, row-in}
 use Rattle.send.specs.ProfileSteps.{firstBy, furtherBy}
-use Rattle.send.specs.ScanSteps.{Sizes}
-use Rattle.send.specs.SendSteps.{SendableSheet, ProfileAsked}
-use Rattle.send.proofs.Columns.{drop-take, profile-place, profile-within, profile-some}
+use Rattle.send.specs.SendSteps.{ProfileAsked}
+use Rattle.send.proofs.Columns.{drop-take, profile-place}
 use Rattle.send.specs.ZeroSteps.{zeroBy}
 use Rattle.send.proofs.ProfileLaws.{first-sent, further-sent}
-use Rattle.send.proofs.ZeroLaws.{zero-sent}
 
 -- ---- a stretch of a stretch
 
@@ -41,17 +40,6 @@ part-of l from long skip most n e =
     ap (take most) (drop-take skip long (drop from l))
     ∙ take-both most (long - skip) (drop skip (drop from l))
     ∙ ap₂ take (sym e) (drop-drop skip from l)
-
--- of cells that can all be sent, so can those of a stretch
-part-sends : (z : ℕ) (cells : List ℤ) (skip most : ℕ) → sendable z cells ≡ length cells
-    → sendable z (take most (drop skip cells)) ≡ length (take most (drop skip cells))
-part-sends z cells skip most all =
-    all-send z (take most (drop skip cells))
-    (λ i k.
-    let m = length-take most (drop skip cells) in
-    let d = length-drop skip cells in
-    ap (canSend z) (getD-take most (drop skip cells) i void (omega (arith, k, m)) ∙ getD-drop skip cells i void)
-    ∙ each-sends z cells all (skip + i) (omega (arith, k, m, d)))
 
 -- ---- the sizes of a sheet
 
@@ -78,21 +66,12 @@ module _ (h : Header) (obeys : headerObeys h ≡ true) where
       let y : rows ≤ 2048 = omega (arith, f, rows-most) in
       omega (arith, mul-le-mul x y)
 
-pub sizes : {h : Header} {grid : List ℤ} → SendableSheet h grid → Sizes (columnsOf h) (rowsOf h) grid
-sizes {h} s =
-    record {
-      columns-most = columns-most h (s .obeys);
-      rows-most = rows-most h (s .obeys);
-      rows-least = rows-least h (s .obeys);
-      cells-there = s .room;
-    }
-
 -- block 0 by the numbers that the code hands over
 pub zero-block : (template : List ℕ) (h : Header) (grid : List ℤ) {written : List ℕ} {least greatest : ℤ} {columns : ℕ}
     → written ≡ zeroBy template h least greatest columns → least ≡ leastStated (sheetCells h grid)
     → greatest ≡ greatestStated (sheetCells h grid) → columns ≡ columnsOf h → written ≡ blockZero template h grid
-zero-block template h grid e el eg ec =
-    e ∙ (λ i. zeroBy template h (el i) (eg i) (ec i)) ∙ zero-sent template h grid
+unfolding zeroBy blockZero
+zero-block template h grid e el eg ec = e ∙ (λ i. zeroBy template h (el i) (eg i) (ec i))
 
 -- ---- a profile in the grid
 
@@ -106,17 +85,14 @@ module _ {h : Header} {grid : List ℤ} {column row posts k : ℕ} {block : List
   abbrev from : ℕ
   from = column * rowsOf h + row
 
-  long : length cells ≡ rowsOf h
-  long = column-length h grid (a .sheet .room) column (a .inside)
-
   some : 1 ≤ length cells
-  some = omega (arith, long, rows-least h (a .sheet .obeys))
+  some = omega (arith, column-length h grid (a .sheet .room) column (a .inside), rows-least h (a .sheet .obeys))
 
-  pub row-posts : row + posts ≤ rowsOf h
-  row-posts = omega (arith, profile-within cells some, long, a .row-is, a .posts-are)
+  row-posts : row + posts ≤ rowsOf h
+  row-posts = omega (arith, row-in h grid (a .sheet .obeys) (a .sheet .room) (a .sheet .all) column (a .inside), a .row-is, a .posts-are)
 
-  pub posts-some : 1 ≤ posts
-  posts-some = omega (arith, profile-some cells, a .posts-are)
+  posts-some : 1 ≤ posts
+  posts-some = omega (arith, some-cells cells, a .posts-are)
 
   pub row-below : row < rowsOf h
   row-below = omega (arith, row-posts, posts-some)
@@ -143,9 +119,7 @@ module _ {h : Header} {grid : List ℤ} {column row posts k : ℕ} {block : List
       ∙ part-of grid (column * rowsOf h) (rowsOf h) row posts posts (omega (arith, row-posts))
 
   pub profile-sends : sendable (zOf h) sent ≡ length sent
-  profile-sends =
-      sendable-sent (zOf h) cells some
-      (column-sendable h grid (a .sheet .room) (zOf h) (a .sheet .all) column (a .inside) ∙ sym long)
+  profile-sends = sent-all h grid (a .sheet .obeys) (a .sheet .room) (a .sheet .all) column (a .inside)
 
   -- the code lends its cells by where they start, r, and how many they are
   pub all-cells : (r : ℕ) → r ≡ from → take (r + posts - r) (drop r grid) ≡ sent

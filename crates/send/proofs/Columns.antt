@@ -15,6 +15,7 @@ use Rattle.number.proofs.GrammarParts.{by-test}
 use Rattle.load.specs.Posts.{void, sameZ}
 use Rattle.load.proofs.Heights.{sameZ-is}
 use Rattle.written.specs.Cells.{voidsBefore, isNone, upToLast, firstRow, profileCells}
+use Rattle.written.proofs.ColumnsSent.{voids-room}
 
 -- ---- from the front
 
@@ -95,23 +96,6 @@ last-front [] = refl
 last-front (c ∷ cs) =
     by-test (sameZ c void and isNone (upToLast cs)) (λ e. rw e) (λ e. rw e (ap (λ l. c ∷ l) (last-front cs)))
 
-last-within : (column : List ℤ) → length (upToLast column) ≤ length column
-unfolding upToLast
-last-within [] = omega arith
-last-within (c ∷ cs) =
-    by-test (sameZ c void and isNone (upToLast cs)) (λ e. rw e (omega arith)) (λ e. rw e (omega (arith, last-within cs)))
-
--- the first filled cell is among them
-pub first-before : (column : List ℤ) → isNone (upToLast column) ≡ false → voidsBefore column < length (upToLast column)
-unfolding upToLast voidsBefore
-first-before [] e = clash e
-first-before (c ∷ cs) e =
-    by-test (sameZ c void)
-    (λ v.
-    by-test (isNone (upToLast cs)) (λ n. clash (rw (v, n) at e))
-    (λ n. rw (v, n) (omega (arith, first-before cs n))))
-    (λ v. rw v (omega arith))
-
 -- where there is none, the first cell is void
 first-void : (c : ℤ) (cs : List ℤ) → isNone (upToLast (c ∷ cs)) ≡ true → c ≡ void
 unfolding upToLast
@@ -132,33 +116,18 @@ one-void : (column : List ℤ) → 1 ≤ length column → isNone (upToLast colu
 one-void [] h e = absurd (omega arith)
 one-void (c ∷ cs) h e = ap (λ (x : ℤ). x ∷ []) (sym (first-void c cs e))
 
-pub profile-some : (column : List ℤ) → 1 ≤ length (profileCells column)
-unfolding profileCells
-profile-some column =
-    by-test (isNone (upToLast column)) (λ e. rw e (omega arith))
-    (λ e. rw e (omega (arith, length-drop (voidsBefore column) (upToLast column), first-before column e)))
-
-module _ (column : List ℤ) (h : 1 ≤ length column) where
-  -- a profile's cells stand in its column from its first row on
-  pub profile-place : profileCells column ≡ take (length (profileCells column)) (drop (firstRow column) column)
-  unfolding profileCells firstRow
-  profile-place =
-      let v = voidsBefore column in
-      let u = upToLast column in
-      by-test (isNone (upToLast column)) (λ e. rw e (one-void column h e))
-      (λ e.
-      rw e
-      (ap (drop v) (last-front column)
-      ∙ drop-take v (length u) column
-      ∙ ap (λ (n : ℕ). take n (drop v column)) (sym (length-drop v u))))
-
-  pub profile-within : firstRow column + length (profileCells column) ≤ length column
-  unfolding profileCells firstRow
-  profile-within =
-      by-test (isNone (upToLast column)) (λ e. rw e (omega arith))
-      (λ e.
-      rw e
-      (omega (arith, length-drop (voidsBefore column) (upToLast column), first-before column e, last-within column)))
+-- a profile's cells stand in its column from its first row on
+pub profile-place : (column : List ℤ) → 1 ≤ length column → profileCells column ≡ take (length (profileCells column)) (drop (firstRow column) column)
+unfolding profileCells firstRow
+profile-place column h =
+    let v = voidsBefore column in
+    let u = upToLast column in
+    by-test (isNone (upToLast column)) (λ e. rw e (one-void column h e))
+    (λ e.
+    rw e
+    (ap (drop v) (last-front column)
+    ∙ drop-take v (length u) column
+    ∙ ap (λ (n : ℕ). take n (drop v column)) (sym (length-drop v u))))
 
 -- ---- a column by how many cells there are up to its last filled one
 
@@ -179,4 +148,4 @@ module _ (column : List ℤ) where
     posts-left = rw (some-of (upToLast column) f) (sym (length-drop (voidsBefore column) (upToLast column)))
 
     pub row-before : voidsBefore column < length (upToLast column)
-    row-before = first-before column (some-of (upToLast column) f)
+    row-before = voids-room column (some-of (upToLast column) f)

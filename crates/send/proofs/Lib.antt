@@ -4,7 +4,6 @@ pub mod Extremes
 pub mod ScanLaws
 pub mod ProfileText
 pub mod ProfileLaws
-pub mod ZeroLaws
 pub mod ZeroTable
 pub mod ZeroWalk
 pub mod AnswerLaws

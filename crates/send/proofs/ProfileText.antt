@@ -2,26 +2,19 @@
 use mathlib.Core.Bool.{Bool, true, false, cond}
 use mathlib.Core.List.{List, [], _∷_, _++_, append-assoc, append-nil}
 use mathlib.Core.Path.{_≡_, refl, sym, _∙_, ap, ap₂, subst, subst⁻¹}
-use Prim.Native.Nat.{ℕ, zero, suc, _+_, _-_, _/_, _%_, _≤_, _<_}
-use native.Mathlib.Nat.{le-of-suc-le-suc, not-suc-le-zero}
+use Prim.Native.Nat.{ℕ, zero, suc, _+_, _-_, _≤_, _<_}
 use native.Mathlib.Numerals.{add-one}
 use native.Mathlib.Omega.{arith}
-use borrow.Author.Tests.{leb-true}
-use lib.Dec.{eqb}
-use lib.IntN.{ℤ, pos, negsuc, natAbs}
+use lib.IntN.{ℤ, pos}
 use lib.ListN.{length, take, drop, getD, set, replicate, length-append, length-take, length-drop}
 use lib.Seq.{length-take-le, take-all, take-at, take-suc}
-use Rattle.laws.proofs.Integers.{size-minus}
-use Rattle.laws.proofs.Tests.{and-second}
-use Rattle.number.proofs.GrammarParts.{by-test}
-use Rattle.sheet.specs.Lattice.{multipleOf}
-use Rattle.load.specs.Posts.{void, sameZ}
 use Rattle.spell.specs.Pieces.{Puts}
 use Rattle.spell.specs.Spell.{integerText, integerFits, realText, realFits}
-use Rattle.spell.proofs.Fits.{integer-length, real-length, integer-fits, thousands-fit}
+use Rattle.spell.proofs.Fits.{integer-length, real-length}
 use Rattle.spell.proofs.Pieces.{put-none, put-one, joined}
 use Rattle.written.specs.Blocks.{postsText, filledUp}
-use Rattle.written.specs.Cells.{quotientFits, canSend, sendable, postOf}
+use Rattle.written.specs.Cells.{postOf}
+use Rattle.written.proofs.PiecesSent.{small-fits, zero-fits}
 use Rattle.send.specs.ProfileSteps.{realsBy, countsBy, headBy}
 
 -- ---- a field
@@ -101,12 +94,6 @@ ends-inside {f} {piece} {g} {at} {end} h p =
       length-take end g,
     )
 
-pub number-fits : (n : ℕ) → n ≤ 2048 → integerFits 6 (pos n) ≡ true
-number-fits n h = integer-fits 4 6 (pos n) (omega arith) (omega arith) (omega arith) (omega arith)
-
-pub zero-fits : realFits 15 24 (pos 0) ≡ true
-zero-fits = thousands-fit (pos 0) (omega arith) refl
-
 -- how long the head's two parts are
 pub counts-length : (number posts : ℕ) → number ≤ 2048 → posts ≤ 2048 → length (countsBy number posts) ≡ 24
 counts-length number posts n p =
@@ -118,9 +105,9 @@ counts-length number posts n p =
       length-append a (b ++ (c ++ a)),
       length-append b (c ++ a),
       length-append c a,
-      integer-length 6 (pos 1) (number-fits 1 (omega arith)),
-      integer-length 6 (pos number) (number-fits number n),
-      integer-length 6 (pos posts) (number-fits posts p),
+      integer-length 6 (pos 1) (small-fits 1 (omega arith)),
+      integer-length 6 (pos number) (small-fits number (omega arith)),
+      integer-length 6 (pos posts) (small-fits posts (omega arith)),
     )
 
 pub reals-length : (x y least greatest : ℤ) → realFits 15 24 x ≡ true → realFits 15 24 y ≡ true → realFits 15 24 least ≡ true
@@ -178,50 +165,6 @@ post-put z cells i d h p q = named (posts-more z cells i d h) (joined p q)
 pub posts-all : {before block : List ℕ} {at end : ℕ} (z : ℕ) (cells : List ℤ) (i : ℕ) → i ≡ length cells
     → Puts before at (postsText z (take i cells)) block end → Puts before at (postsText z cells) block end
 posts-all z cells i e p = named (ap (postsText z) (take-all i cells (omega arith))) p
-
--- where as many cells can be sent as there are, each of them can
-sent-first : (z : ℕ) (c : ℤ) (cs : List ℤ) → sendable z (c ∷ cs) ≡ suc (length cs)
-    → (canSend z c ≡ true) × (sendable z cs ≡ length cs)
-unfolding sendable
-sent-first z c cs e = by-test (canSend z c) (λ t. (t, sent t)) (λ t. absurd (none t))
-  where
-    sent : canSend z c ≡ true → sendable z cs ≡ length cs
-    sent t =
-        let k : suc (sendable z cs) ≡ suc (length cs) = rw t at e in
-        omega arith
-
-    none : canSend z c ≡ false → ⊥
-    none t =
-        let k : 0 ≡ suc (length cs) = rw t at e in
-        omega arith
-
-sent-each : (z : ℕ) (cells : List ℤ) → sendable z cells ≡ length cells → (i : ℕ) (d : ℤ) → i < length cells
-    → canSend z (getD cells i d) ≡ true
-sent-each z [] e i d h = absurd (not-suc-le-zero h)
-sent-each z (c ∷ cs) e zero d h = sent-first z c cs e .0
-sent-each z (c ∷ cs) e (suc i) d h = sent-each z cs (sent-first z c cs e .1) i d (le-of-suc-le-suc h)
-
-quotient-small : (z : ℕ) (cell : ℤ) → quotientFits z cell ≡ true → natAbs (multipleOf cell z) ≤ 32767
-quotient-small z (pos n) t = leb-true (n / z) 32767 t
-quotient-small z (negsuc n) t = omega (arith, leb-true (suc n / z) 32766 t, size-minus (pos (suc n / z)))
-
-post-small : (z : ℕ) (cell : ℤ) → canSend z cell ≡ true → natAbs (postOf z cell) ≤ 32767
-unfolding canSend postOf
-post-small z cell t = go (sameZ cell void) refl
-  where
-    go : (s : Bool) → sameZ cell void ≡ s → natAbs (postOf z cell) ≤ 32767
-    go true s = rw s (omega arith)
-    go false s =
-        rw s (quotient-small z cell (and-second (eqb (natAbs cell % z) 0) (quotientFits z cell) (rw s at t)))
-
--- "with quotient -32766 to 32767", "voids between as -32767": six bytes hold each
-post-fits : (z : ℕ) (cell : ℤ) → canSend z cell ≡ true → integerFits 6 (postOf z cell) ≡ true
-post-fits z cell t =
-    integer-fits 5 6 (postOf z cell) (omega arith) (omega arith) (omega (arith, post-small z cell t)) (omega arith)
-
-pub sent-fits : (z : ℕ) (cells : List ℤ) → sendable z cells ≡ length cells → (i : ℕ) (d : ℤ) → i < length cells
-    → integerFits 6 (postOf z (getD cells i d)) ≡ true
-sent-fits z cells e i d h = post-fits z (getD cells i d) (sent-each z cells e i d h)
 
 -- ---- blanks
 

@@ -10,19 +10,18 @@ use lib.Dec.{ltb}
 use lib.IntN.{ℤ}
 use lib.ListN.{length, drop, length-take, length-drop}
 use Rattle.number.proofs.GrammarParts.{by-test}
-use Rattle.sheet.specs.RecordA.{rowsOf}
+use Rattle.sheet.specs.RecordA.{columnsOf, rowsOf}
 use Rattle.sheet.specs.declared.record_a.Header.{Header}
+use Rattle.session.proofs.Facts.{header-facts}
 use Rattle.load.specs.Posts.{blocksFor}
-use Rattle.written.specs.Cells.{columnCells, cellsSent, firstRow, profileCells, startSent, columnWith}
+use Rattle.written.specs.Cells.{cellsSent, firstRow, profileCells, startSent, columnWith}
 use Rattle.send.specs.ScanSteps.{columnAt, startAt, columnFor, Sizes, Finds}
-use Rattle.send.proofs.Columns.{profile-within}
+use Rattle.send.specs.SendSteps.{SendableSheet}
+use Rattle.written.proofs.ColumnsSent.{cells-room}
 
 -- ---- by the header
 
 module _ (h : Header) (grid : List ℤ) where
-  pub column-cells : (c : ℕ) → columnAt (rowsOf h) grid c ≡ columnCells h grid c
-  column-cells c = refl
-
   pub start-sent : (c : ℕ) → startAt (rowsOf h) grid c ≡ startSent h grid c
   unfolding startAt startSent
   start-sent zero = refl
@@ -82,6 +81,12 @@ module _ (rows : ℕ) (grid : List ℤ) where
       let q = lt-leb (startAt rows grid (suc n)) number (later number (suc n) (suc c) (omega arith) k) in
       rw q (past-column number n c g k))
 
+-- the sizes of a sheet that can be sent
+pub sizes : {h : Header} {grid : List ℤ} → SendableSheet h grid → Sizes (columnsOf h) (rowsOf h) grid
+sizes {h} s =
+    let f = header-facts h (s .obeys) in
+    record { columns-most = f .columns .1; rows-most = f .rows .1; rows-least = f .rows .0; cells-there = s .room }
+
 module _ {columns rows : ℕ} {grid : List ℤ} (s : Sizes columns rows grid) where
   module _ (c : ℕ) (h : c < columns) where
     pub column-room : c * rows + rows ≤ length grid
@@ -92,7 +97,7 @@ module _ {columns rows : ℕ} {grid : List ℤ} (s : Sizes columns rows grid) wh
 
     pub posts-most : length (profileCells (columnAt rows grid c)) ≤ 2048
     posts-most =
-        omega (arith, profile-within (columnAt rows grid c) (omega (arith, column-long, s .rows-least)), column-long, s .rows-most)
+        omega (arith, cells-room (columnAt rows grid c) (omega (arith, column-long, s .rows-least)), column-long, s .rows-most)
 
   pub start-most : (c : ℕ) → c ≤ columns → startAt rows grid c ≤ 1 + 13 * c
   start-most zero h = omega (arith, start-first rows grid)

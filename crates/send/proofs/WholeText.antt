@@ -1,31 +1,27 @@
 -- A whole sheet by its columns is its blocks in order: each column's blocks stand from its start on, and one more is one more piece put.
-use mathlib.Core.Bool.{false, cond}
 use mathlib.Core.List.{List, [], _++_, map}
 use mathlib.Core.Path.{_≡_, refl, sym, _∙_, ap, ap₂}
-use Prim.Native.Nat.{ℕ, zero, suc, _+_, _*_, _-_, _≤_, _<_}
+use Prim.Native.Nat.{ℕ, zero, suc, _+_, _*_, _≤_, _<_}
 use native.Mathlib.Numerals.{add-one}
 use native.Mathlib.Omega.{arith}
-use borrow.Author.Tests.{ne-eqb}
-use lib.Dec.{eqb}
 use lib.IntN.{ℤ}
 use lib.ListN.{length, take, drop, length-drop}
 use lib.Seq.{take-all, length-take-le}
-use Rattle.sheet.specs.RecordA.{columnsOf, rowsOf}
+use Rattle.sheet.specs.RecordA.{columnsOf}
 use Rattle.sheet.specs.declared.record_a.Header.{Header}
-use Rattle.session.proofs.Facts.{header-facts}
 use Rattle.load.specs.Posts.{blocksFor}
 use Rattle.meaning.specs.Text.{from, below, joined}
 use Rattle.meaning.proofs.Lists.{from-append, map-append, map-shift, joined-append, append-nil, append-brackets}
 use Rattle.spell.specs.Pieces.{Puts}
 use Rattle.spell.proofs.Pieces.{joined as both}
-use Rattle.written.specs.Cells.{cellsSent, startSent, blockCount, columnWith}
+use Rattle.written.specs.Cells.{cellsSent, startSent, blockCount}
 use Rattle.written.specs.Blocks.{blockZero, profileBlock, blockSent}
-use Rattle.written.proofs.SheetSent.{first-start, start-next, start-from, column-with}
-use Rattle.send.specs.ScanSteps.{Sizes}
+use Rattle.written.proofs.SheetSent.{first-start, start-next}
+use Rattle.written.proofs.BlocksSent.{zero-is, profile-is}
 use Rattle.send.specs.SendSteps.{SendableSheet}
 use Rattle.send.specs.WholeSteps.{blocksText, columnText, columnsText, wholeText}
 use Rattle.send.proofs.ProfileText.{field-put, named}
-use Rattle.send.proofs.ScanLaws.{start-sent, start-most}
+use Rattle.send.proofs.ScanLaws.{start-sent, sizes, start-most}
 
 -- ---- texts joined
 
@@ -41,11 +37,6 @@ joined-more f k =
     ∙ ap (λ (n : ℕ). joined (map f (below n))) (sym e)
 
 -- ---- sizes
-
-pub sizes : {h : Header} {grid : List ℤ} → SendableSheet h grid → Sizes (columnsOf h) (rowsOf h) grid
-sizes {h} s =
-    let f = header-facts h (s .obeys) in
-    record { columns-most = f .columns .1; rows-most = f .rows .1; rows-least = f .rows .0; cells-there = s .room }
 
 pub count-most : {h : Header} {grid : List ℤ} → SendableSheet h grid → blockCount h grid ≤ 26625
 count-most {h} {grid} s =
@@ -94,35 +85,18 @@ module _ (template : List ℕ) (h : Header) (grid : List ℤ) where
   abbrev sent : ℕ → List ℕ
   sent = blockSent template h grid
 
-  zero-is : sent 0 ≡ blockZero template h grid
-  unfolding blockSent
-  zero-is = refl
-
-  -- block q of a column's profile
-  profile-is : (c q : ℕ) → c < columnsOf h → q < blocksFor (length (cellsSent h grid c))
-      → sent (startSent h grid c + q) ≡ profileBlock h grid c q
-  unfolding blockSent
-  profile-is c q lt less =
-      let number = startSent h grid c + q in
-      let n : eqb number 0 ≡ false = ne-eqb number 0 (λ z. omega (arith, z, start-from h grid c)) in
-      let w : columnWith h grid (columnsOf h) number ≡ c
-      = column-with h grid (columnsOf h) c number lt (omega arith) (omega (arith, less, start-next h grid c)) in
-      let d : number - startSent h grid c ≡ q = omega arith in
-      (λ i. cond (n i) (blockZero template h grid) (profileBlock h grid (w i) (number - startSent h grid (w i))))
-      ∙ ap (profileBlock h grid c) d
-
   -- the blocks from a column's start on are its profile's
   column-is : (c : ℕ) → c < columnsOf h
       → joined (map sent (from (startSent h grid c) (blocksFor (length (cellsSent h grid c))))) ≡ columnText h grid c
   column-is c lt =
       ap joined
       (map-shift sent (profileBlock h grid c) (startSent h grid c) 0 (blocksFor (length (cellsSent h grid c)))
-      (λ q less. let e : q ≡ 0 + q = omega arith in profile-is c q lt less ∙ ap (profileBlock h grid c) e))
+      (λ q less. let e : q ≡ 0 + q = omega arith in profile-is template h grid c q lt less ∙ ap (profileBlock h grid c) e))
 
   columns-are : (n : ℕ) → n ≤ columnsOf h
       → joined (map sent (below (startSent h grid n))) ≡ blockZero template h grid ++ columnsText h grid n
   columns-are zero le =
-      ap (λ (k : ℕ). joined (map sent (below k))) (first-start h grid) ∙ ap (λ (l : List ℕ). l ++ []) zero-is
+      ap (λ (k : ℕ). joined (map sent (below k))) (first-start h grid) ∙ ap (λ (l : List ℕ). l ++ []) (zero-is template h grid)
   columns-are (suc n) le =
       let s = startSent h grid n in
       let b = blocksFor (length (cellsSent h grid n)) in

@@ -12,15 +12,13 @@ use mir.Syntax.{w64}
 use mir.Val.{SFits, toZ, ofZ}
 use lib.Dec.{T, leb, eqb, leb→le, eqb→eq}
 use lib.IntN.{ℤ, pos}
-use lib.ListN.{length, take, drop, getD, length-drop}
-use lib.Seq.{length-take-le}
+use lib.ListN.{length, take, drop, getD}
 use Rattle.laws.specs.Sign.{_and_}
 use Rattle.laws.proofs.Tables.{all-at, and-left, and-right}
 use Rattle.sheet.specs.declared.record_a.Header.{Header}
-use Rattle.spell.specs.Spell.{integerFits, realFits}
-use Rattle.spell.proofs.Fits.{integer-length, real-length}
 use Rattle.written.specs.Blocks.{Piece, pieceText, piecesBy}
 use Rattle.written.specs.Blocks.Piece.{keeps, whole, real, spacing}
+use Rattle.written.proofs.PiecesSent.{nothing, pieceFits, pieceWidth}
 use Rattle.send.specs.ZeroSteps.{Stretch, stretches, blockEnd, stretchAt, numberIn, textBy, within, pieceBy}
 
 -- ---- the columns
@@ -73,9 +71,6 @@ last-end = refl
 
 -- ---- each suits its piece
 
-abbrev pub nothing : Piece
-nothing = keeps 1 0
-
 abbrev pub suits : Piece → Stretch → Bool
 suits (keeps first width) s = eqb (s .how) 0 and eqb (s .start) (first - 1) and eqb (s .width) width
 suits (whole n) s = eqb (s .how) 1 and eqb (s .width) 6
@@ -104,45 +99,31 @@ module _ (h : Header) (least greatest : ℤ) (columns : ℕ) where
 
 -- ---- the text of a piece that fits its field
 
-abbrev pub fits : Piece → Bool
-fits (keeps first width) = true
-fits (whole n) = integerFits 6 (pos n)
-fits (real z) = realFits 15 24 z
-fits (spacing v) = realFits 6 12 (pos v)
+pub suits-width : (p : Piece) (s : Stretch) → T (suits p s) → s .width ≡ pieceWidth p
+suits-width (keeps first width) s t = eqb→eq (s .width) width (and-right (eqb (s .start) (first - 1)) _ (and-right (eqb (s .how) 0) _ t))
+suits-width (whole n) s t = eqb→eq (s .width) 6 (and-right (eqb (s .how) 1) _ t)
+suits-width (real z) s t = eqb→eq (s .width) 24 (and-right (eqb (s .how) 2) _ t)
+suits-width (spacing v) s t = eqb→eq (s .width) 12 (and-right (eqb (s .how) 3) _ t)
 
-pub text-is : (template field : List ℕ) (p : Piece) (s : Stretch) → T (suits p s) → fits p ≡ true → length field ≡ s .width
+pub text-is : (template field : List ℕ) (p : Piece) (s : Stretch) → T (suits p s) → pieceFits p ≡ true → length field ≡ s .width
     → textBy (s .how) (numberIn p) (within s template) field ≡ pieceText template p
 unfolding textBy
 text-is template field (keeps first width) s t f l =
-    let rest = and-right (eqb (s .how) 0) _ t in
+    let start = and-left (eqb (s .start) (first - 1)) _ (and-right (eqb (s .how) 0) _ t) in
     rw (
       eqb→eq (s .how) 0 (and-left (eqb (s .how) 0) _ t),
-      eqb→eq (s .start) (first - 1) (and-left (eqb (s .start) (first - 1)) _ rest),
-      eqb→eq (s .width) width (and-right (eqb (s .start) (first - 1)) _ rest),
+      eqb→eq (s .start) (first - 1) start,
+      suits-width (keeps first width) s t,
     )
 text-is template field (whole n) s t f l =
-    let e : length field ≡ 6 = l ∙ eqb→eq (s .width) 6 (and-right (eqb (s .how) 1) _ t) in
+    let e : length field ≡ 6 = l ∙ suits-width (whole n) s t in
     rw (eqb→eq (s .how) 1 (and-left (eqb (s .how) 1) _ t), e, f)
 text-is template field (real z) s t f l =
-    let e : length field ≡ 24 = l ∙ eqb→eq (s .width) 24 (and-right (eqb (s .how) 2) _ t) in
+    let e : length field ≡ 24 = l ∙ suits-width (real z) s t in
     rw (eqb→eq (s .how) 2 (and-left (eqb (s .how) 2) _ t), e, f)
 text-is template field (spacing v) s t f l =
-    let e : length field ≡ 12 = l ∙ eqb→eq (s .width) 12 (and-right (eqb (s .how) 3) _ t) in
+    let e : length field ≡ 12 = l ∙ suits-width (spacing v) s t in
     rw (eqb→eq (s .how) 3 (and-left (eqb (s .how) 3) _ t), e, f)
-
-pub text-length : (template : List ℕ) (p : Piece) (s : Stretch) → T (suits p s) → fits p ≡ true → s .start + s .width ≤ length template
-    → length (pieceText template p) ≡ s .width
-text-length template (keeps first width) s t f room =
-    let rest = and-right (eqb (s .how) 0) _ t in
-    let a = eqb→eq (s .start) (first - 1) (and-left (eqb (s .start) (first - 1)) _ rest) in
-    let w = eqb→eq (s .width) width (and-right (eqb (s .start) (first - 1)) _ rest) in
-    length-take-le width (drop (first - 1) template) (omega (arith, length-drop (first - 1) template)) ∙ sym w
-text-length template (whole n) s t f room =
-    integer-length 6 (pos n) f ∙ sym (eqb→eq (s .width) 6 (and-right (eqb (s .how) 1) _ t))
-text-length template (real z) s t f room =
-    real-length 15 24 z 68 f ∙ sym (eqb→eq (s .width) 24 (and-right (eqb (s .how) 2) _ t))
-text-length template (spacing v) s t f room =
-    real-length 6 12 (pos v) 69 f ∙ sym (eqb→eq (s .width) 12 (and-right (eqb (s .how) 3) _ t))
 
 -- a signed number that fits is read back from its bits
 pub told : (z : ℤ) {number : ℤ} → z ≡ number → SFits w64 z → toZ w64 (ofZ w64 z) ≡ number

@@ -43,7 +43,7 @@ last-cell (c ∷ cs) r =
     cells zero h = refl
     cells (suc r) h = h r
 
-last-length : (column : List ℤ) → length (upToLast column) ≤ length column
+pub last-length : (column : List ℤ) → length (upToLast column) ≤ length column
 unfolding upToLast
 last-length [] = omega arith
 last-length (c ∷ cs) =
@@ -62,7 +62,7 @@ voids-void (c ∷ cs) r h =
     voids zero e k f = e
     voids (suc r) e k f = f r (omega (arith, k))
 
-voids-room : (column : List ℤ) → isNone (upToLast column) ≡ false → voidsBefore column < length (upToLast column)
+pub voids-room : (column : List ℤ) → isNone (upToLast column) ≡ false → voidsBefore column < length (upToLast column)
 unfolding voidsBefore upToLast
 voids-room [] h = clash h
 voids-room (c ∷ cs) h =

@@ -5,27 +5,22 @@ use mathlib.Core.Path.{_≡_, refl, _∙_, ap}
 use Prim.Native.Nat.{ℕ, zero, suc, _+_, _*_, _/_, _%_, _^_, _≤_, _<_}
 use native.Mathlib.Nat.{mul-le-mul, div-add-mod', dvd-of-mod-eq-zero, dvd-mul-left-of-dvd, mod-eq-zero-of-dvd}
 use native.Mathlib.Omega.{arith}
-use borrow.Author.Tests.{leb-true, eqb-true}
-use lib.Dec.{ltb, eqb}
+use borrow.Author.Tests.{leb-true}
 use lib.IntN.{ℤ, pos, negsuc, natAbs, _+ℤ_, _*ℤ_}
 use lib.ListN.{length, getD}
 use lib.Signed.{ltZ}
-use Rattle.laws.specs.Sign.{_and_}
-use Rattle.laws.specs.Digits.{short}
 use Rattle.laws.proofs.Integers.{parts, le-parts, size-multiple}
-use Rattle.laws.proofs.Tests.{and-first, and-second}
 use Rattle.number.proofs.GrammarParts.{by-test}
 use Rattle.spell.specs.Spell.{realFits}
-use Rattle.spell.proofs.Fits.{thousands-fit}
+use Rattle.spell.proofs.Fits.{real-fits, thousands-fit}
 use Rattle.sheet.specs.Lattice.{isReal, latticeOf, placeOf}
 use Rattle.sheet.specs.RecordA.{columnsOf, rowsOf, west, east, south, north, lesser, greater, billion}
 use Rattle.sheet.specs.declared.lattice.Place.the-variants.{On}
-use Rattle.sheet.specs.declared.record_a.Corner.{Corner}
 use Rattle.sheet.specs.declared.record_a.Header.{Header}
 use Rattle.sheet.proofs.Cases.{real-small, small-real}
 use Rattle.sheet.proofs.LatticeLaws.{lattice-is, on-place, first-real}
-use Rattle.session.specs.Session.{isRealNumber, cornerReal, headerObeys}
-use Rattle.session.proofs.Facts.{split, Heading, header-facts, Ranged}
+use Rattle.session.specs.Session.{headerObeys}
+use Rattle.session.proofs.Facts.{Heading, header-facts, Ranged}
 use Rattle.load.specs.Posts.{void, sameZ}
 use Rattle.load.specs.Deliver.{cellsOf}
 use Rattle.meaning.specs.Rules.{filledOnly, leastOf, greatestOf, leastStated, greatestStated}
@@ -33,6 +28,8 @@ use Rattle.written.specs.Cells.{canSend, sendable, quotientFits, columnC
 use Rattle.written.specs.Blocks.{xSent, yOfRow, ySent}
 use Rattle.written.proofs.ColumnsSent.{some-cells, cells-room, EachSends, each-sends}
 use Rattle.written.proofs.SheetSent.{column-length}
+use Rattle.written.proofs.PiecesSent.{HeaderReals, header-reals}
+use Rattle.written.proofs.PostsSent.{filled-can}
 
 -- ---- a multiple of the spacing between two reals
 
@@ -64,19 +61,25 @@ module _ (least greatest : ℤ) (s : ℕ) (rl : isReal least ≡ true) (rg : isR
 
 -- ---- the corners of a header are reals
 
-number-real : (z : ℤ) → isRealNumber z ≡ true → isReal z ≡ true
-number-real z t = and-first (ltb (natAbs z) (10 ^ 18)) (short 18 15 (natAbs z)) t
+-- what holds of both numbers holds of the lesser and of the greater one
+module _ (P : ℤ → Type 0) where
+  lesser-of : (a b : ℤ) → P a → P b → P (lesser a b)
+  lesser-of a b p q = by-test (ltZ b a) (λ e. rw e q) (λ e. rw e p)
 
-lesser-real : (a b : ℤ) → isReal a ≡ true → isReal b ≡ true → isReal (lesser a b) ≡ true
-lesser-real a b p q = by-test (ltZ b a) (λ e. rw e q) (λ e. rw e p)
+  greater-of : (a b : ℤ) → P a → P b → P (greater a b)
+  greater-of a b p q = by-test (ltZ a b) (λ e. rw e q) (λ e. rw e p)
 
-greater-real : (a b : ℤ) → isReal a ≡ true → isReal b ≡ true → isReal (greater a b) ≡ true
-greater-real a b p q = by-test (ltZ a b) (λ e. rw e q) (λ e. rw e p)
+  least-of-four : (a b c d : ℤ) → P a → P b → P c → P d → P (lesser (lesser a b) (lesser c d))
+  least-of-four a b c d p q r s = lesser-of (lesser a b) (lesser c d) (lesser-of a b p q) (lesser-of c d r s)
 
-corner-reals : (c : Corner) → cornerReal c ≡ true → (isReal (c .x) ≡ true) × (isReal (c .y) ≡ true)
-corner-reals c t =
-    let a = split (isRealNumber (c .x)) _ t in
-    (number-real (c .x) (a .0), number-real (c .y) (a .1))
+  greatest-of-four : (a b c d : ℤ) → P a → P b → P c → P d → P (greater (greater a b) (greater c d))
+  greatest-of-four a b c d p q r s = greater-of (greater a b) (greater c d) (greater-of a b p q) (greater-of c d r s)
+
+abbrev Fits : ℤ → Type 0
+Fits z = realFits 15 24 z ≡ true
+
+is-real : (z : ℤ) → Fits z → isReal z ≡ true
+is-real z f = small-real z (real-fits 15 24 z f .modest)
 
 -- a spacing is a whole number of units
 spacing-some : (s : ℕ) → Ranged billion (9999 * billion) billion s → 1 ≤ s
@@ -89,48 +92,28 @@ module _ (h : Header) (obeys : headerObeys h ≡ true) where
   facts : Heading h
   facts = header-facts h obeys
 
-  record Corners : Type 0 where
-    sw : (isReal (h .sw .x) ≡ true) × (isReal (h .sw .y) ≡ true)
-    nw : (isReal (h .nw .x) ≡ true) × (isReal (h .nw .y) ≡ true)
-    ne : (isReal (h .ne .x) ≡ true) × (isReal (h .ne .y) ≡ true)
-    se : (isReal (h .se .x) ≡ true) × (isReal (h .se .y) ≡ true)
-
-  corners : Corners
-  corners =
-      let a = split (cornerReal (h .sw)) _ (facts .reals) in
-      let b = split (cornerReal (h .nw)) _ (a .1) in
-      let c = split (cornerReal (h .ne)) _ (b .1) in
-      let d = split (cornerReal (h .se)) _ (c .1) in
-      record {
-        sw = corner-reals (h .sw) (a .0);
-        nw = corner-reals (h .nw) (b .0);
-        ne = corner-reals (h .ne) (c .0);
-        se = corner-reals (h .se) (d .0);
-      }
+  corners : HeaderReals h
+  corners = header-reals h obeys
 
   west-real : isReal (west h) ≡ true
   west-real =
-      lesser-real (lesser (h .sw .x) (h .nw .x)) (lesser (h .ne .x) (h .se .x))
-      (lesser-real (h .sw .x) (h .nw .x) (corners .sw .0) (corners .nw .0))
-      (lesser-real (h .ne .x) (h .se .x) (corners .ne .0) (corners .se .0))
+      is-real (west h)
+      (least-of-four Fits (h .sw .x) (h .nw .x) (h .ne .x) (h .se .x) (corners .sw .0) (corners .nw .0) (corners .ne .0) (corners .se .0))
 
   east-real : isReal (east h) ≡ true
   east-real =
-      greater-real (greater (h .sw .x) (h .nw .x)) (greater (h .ne .x) (h .se .x))
-      (greater-real (h .sw .x) (h .nw .x) (corners .sw .0) (corners .nw .0))
-      (greater-real (h .ne .x) (h .se .x) (corners .ne .0) (corners .se .0))
+      is-real (east h)
+      (greatest-of-four Fits (h .sw .x) (h .nw .x) (h .ne .x) (h .se .x) (corners .sw .0) (corners .nw .0) (corners .ne .0) (corners .se .0))
 
   south-real : isReal (south h) ≡ true
   south-real =
-      lesser-real (lesser (h .sw .y) (h .nw .y)) (lesser (h .ne .y) (h .se .y))
-      (lesser-real (h .sw .y) (h .nw .y) (corners .sw .1) (corners .nw .1))
-      (lesser-real (h .ne .y) (h .se .y) (corners .ne .1) (corners .se .1))
+      is-real (south h)
+      (least-of-four Fits (h .sw .y) (h .nw .y) (h .ne .y) (h .se .y) (corners .sw .1) (corners .nw .1) (corners .ne .1) (corners .se .1))
 
   north-real : isReal (north h) ≡ true
   north-real =
-      greater-real (greater (h .sw .y) (h .nw .y)) (greater (h .ne .y) (h .se .y))
-      (greater-real (h .sw .y) (h .nw .y) (corners .sw .1) (corners .nw .1))
-      (greater-real (h .ne .y) (h .se .y) (corners .ne .1) (corners .se .1))
+      is-real (north h)
+      (greatest-of-four Fits (h .sw .y) (h .nw .y) (h .ne .y) (h .se .y) (corners .sw .1) (corners .nw .1) (corners .ne .1) (corners .se .1))
 
   -- ---- places
 
@@ -177,35 +160,29 @@ quotient-most z (pos n) t = leb-true (n / z) 32767 t
 quotient-most z (negsuc n) t = omega (arith, leb-true (suc n / z) 32766 t)
 
 cell-small : (z : ℕ) (cell : ℤ) → z ≤ 100 → canSend z cell ≡ true → sameZ cell void ≡ false → natAbs cell ≤ 3276700
-unfolding canSend
 cell-small z cell most t filled =
     let n = natAbs cell in
-    let u : (eqb (n % z) 0 and quotientFits z cell) ≡ true = rw filled at t in
-    let even = eqb-true (n % z) 0 (and-first (eqb (n % z) 0) (quotientFits z cell) u) in
-    let quotient = quotient-most z cell (and-second (eqb (n % z) 0) (quotientFits z cell) u) in
-    let size : n / z * z ≤ 32767 * 100 = mul-le-mul quotient most in
-    omega (arith, size, even, div-add-mod' n z)
+    let f = filled-can z cell t filled in
+    let size : n / z * z ≤ 32767 * 100 = mul-le-mul (quotient-most z cell (f .1)) most in
+    omega (arith, size, f .0, div-add-mod' n z)
+
+abbrev SmallCell : ℤ → Type 0
+SmallCell cell = natAbs cell ≤ 3276700
 
 abbrev Small : List ℤ → Type 0
-Small cells = (i : ℕ) → i < length cells → natAbs (getD cells i void) ≤ 3276700
+Small cells = (i : ℕ) → i < length cells → SmallCell (getD cells i void)
 
-lesser-small : (a b : ℤ) → natAbs a ≤ 3276700 → natAbs b ≤ 3276700 → natAbs (lesser a b) ≤ 3276700
-lesser-small a b p q = by-test (ltZ b a) (λ e. rw e q) (λ e. rw e p)
-
-greater-small : (a b : ℤ) → natAbs a ≤ 3276700 → natAbs b ≤ 3276700 → natAbs (greater a b) ≤ 3276700
-greater-small a b p q = by-test (ltZ a b) (λ e. rw e q) (λ e. rw e p)
-
-least-small : (cells : List ℤ) → Small cells → natAbs (leastOf cells) ≤ 3276700
+least-small : (cells : List ℤ) → Small cells → SmallCell (leastOf cells)
 least-small [] s = omega arith
 least-small (c ∷ []) s = s 0 (omega arith)
 least-small (c ∷ (d ∷ cs)) s =
-    lesser-small c (leastOf (d ∷ cs)) (s 0 (omega arith)) (least-small (d ∷ cs) (λ i k. s (suc i) (omega (arith, k))))
+    lesser-of SmallCell c (leastOf (d ∷ cs)) (s 0 (omega arith)) (least-small (d ∷ cs) (λ i k. s (suc i) (omega (arith, k))))
 
-greatest-small : (cells : List ℤ) → Small cells → natAbs (greatestOf cells) ≤ 3276700
+greatest-small : (cells : List ℤ) → Small cells → SmallCell (greatestOf cells)
 greatest-small [] s = omega arith
 greatest-small (c ∷ []) s = s 0 (omega arith)
 greatest-small (c ∷ (d ∷ cs)) s =
-    greater-small c (greatestOf (d ∷ cs)) (s 0 (omega arith)) (greatest-small (d ∷ cs) (λ i k. s (suc i) (omega (arith, k))))
+    greater-of SmallCell c (greatestOf (d ∷ cs)) (s 0 (omega arith)) (greatest-small (d ∷ cs) (λ i k. s (suc i) (omega (arith, k))))
 
 hundredths-fit : (v : ℤ) → natAbs v ≤ 3276700 → realFits 15 24 (v *ℤ pos 10000000) ≡ true
 hundredths-fit v small =

@@ -31,17 +31,13 @@ pub none-of : {X : Type 0} (n : ℕ) → suc n ≡ 0 → X
 none-of n e = absurd (omega (arith, e))
 
 -- a refused template has a kind
-codeOf : Checked → ℕ
-codeOf (Sheet h) = 0
-codeOf (NoSheet kind byte) = 1
-
 pub refused-kind : (template : List ℕ) (kind byte : ℕ) → recordA template ≡ NoSheet kind byte → kind ≡ 0 → ⊥
-unfolding recordA codeOf
+unfolding recordA
 refused-kind template kind byte e z =
     by-test (eqb (faultOf template .kind) 0)
     (λ f.
     let q : Sheet (headerOf template) ≡ NoSheet kind byte = rw f at e in
-    let n : _≡_ {A = ℕ} 0 1 = ap codeOf q in omega (arith, n))
+    let n : _≡_ {A = ℕ} 0 1 = cc in omega (arith, n))
     (λ f.
     let q : NoSheet (faultOf template .kind) (faultOf template .byte) ≡ NoSheet kind byte = rw f at e in
     eqb-false (faultOf template .kind) 0 f (ap checkedKind q ∙ z))

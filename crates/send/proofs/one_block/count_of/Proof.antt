@@ -3,8 +3,7 @@ use mathlib.Core.Path.{_∙_, ap₂}
 use Prim.Native.Nat.{ℕ}
 use Rattle.sheet.specs.RecordA.{columnsOf}
 use Rattle.send.specs.ScanSteps.{startAt}
-use Rattle.send.proofs.BlockCells.{sizes}
-use Rattle.send.proofs.ScanLaws.{start-sent}
+use Rattle.send.proofs.ScanLaws.{start-sent, sizes}
 use Rattle.send.proofs.one_block.count_of.Statement.{statement}
 use Rattle.send.proofs.one_block.count_of.Tie as tie
 

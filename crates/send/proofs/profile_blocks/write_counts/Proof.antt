@@ -7,7 +7,8 @@ use mir.Syntax.{w64}
 use Rattle.spell.specs.Pieces.{Puts}
 use Rattle.spell.specs.Spell.{integerText}
 use Rattle.spell.proofs.Pieces.{joined}
-use Rattle.send.proofs.ProfileText.{named, Reaches, past-whole, number-fits}
+use Rattle.written.proofs.PiecesSent.{small-fits}
+use Rattle.send.proofs.ProfileText.{named, Reaches, past-whole}
 use borrow.Author.Needs.{needs}
 use Rattle.send.proofs.profile_blocks.write_counts.Statement.{statement}
 use Rattle.send.proofs.profile_blocks.write_counts.Tie as tie
@@ -16,7 +17,7 @@ abbrev start : tie.After-put-whole → tie.Start
 start c = c .before .before .before
 
 reaches : (c : tie.After-put-whole) → Reaches (start c .args .block .now) (c .put-whole .last .1 .1 .0) (c .put-whole .result) 6
-reaches c = past-whole (pos 1) (number-fits 1 (omega arith)) (record { byte = refl; long = refl }) (c .put-whole .ensures)
+reaches c = past-whole (pos 1) (small-fits 1 (omega arith)) (record { byte = refl; long = refl }) (c .put-whole .ensures)
 
 second : (c : tie.After-put-whole2)
     → Puts (c .before .before .before .before .put-whole .last .1 .1 .0) (c .before .before .before .before .put-whole .result)
@@ -30,7 +31,7 @@ reaches-2 : (c : tie.After-put-whole2)
     → Reaches (start (c .before .before .before .before) .args .block .now) (c .put-whole2 .last .1 .1 .0) (c .put-whole2 .result) 12
 reaches-2 c =
     let s = start (c .before .before .before .before) in
-    past-whole (pos (s .args .number)) (number-fits (s .args .number) (s .pre .number-most)) (reaches (c .before .before .before .before))
+    past-whole (pos (s .args .number)) (small-fits (s .args .number) (omega (arith, s .pre .number-most))) (reaches (c .before .before .before .before))
     (second c)
 
 abbrev middle : tie.After-put-whole3 → tie.After-put-whole2
@@ -48,10 +49,10 @@ reaches-3 : (c : tie.After-put-whole3)
     → Reaches (start (middle c .before .before .before .before) .args .block .now) (c .put-whole3 .last .1 .1 .0) (c .put-whole3 .result) 18
 reaches-3 c =
     let s = start (middle c .before .before .before .before) in
-    past-whole (pos (s .args .posts)) (number-fits (s .args .posts) (s .pre .posts-most)) (reaches-2 (middle c)) (third c)
+    past-whole (pos (s .args .posts)) (small-fits (s .args .posts) (omega (arith, s .pre .posts-most))) (reaches-2 (middle c)) (third c)
 
 put-whole-requires : tie.Need-put-whole-requires
-put-whole-requires c κs = record { fits = number-fits 1 (omega arith); room = omega (arith, c .before .before .pre .room) }
+put-whole-requires c κs = record { fits = small-fits 1 (omega arith); room = omega (arith, c .before .before .pre .room) }
 
 cast-put-whole : tie.Need-cast-put-whole
 cast-put-whole c = search needs
@@ -61,7 +62,7 @@ put-whole-requires-2 c κs =
     let p = c .before .before .before in
     let s = start p in
     record {
-      fits = rw (toZ-pos w64 {n = s .args .number} (omega (arith, s .pre .number-most))) (number-fits (s .args .number) (s .pre .number-most));
+      fits = rw (toZ-pos w64 {n = s .args .number} (omega (arith, s .pre .number-most))) (small-fits (s .args .number) (omega (arith, s .pre .number-most)));
       room = omega (arith, reaches p, s .pre .room);
     }
 
@@ -73,7 +74,7 @@ put-whole-requires-3 c κs =
     let p = c .before .before .before in
     let s = start (p .before .before .before .before) in
     record {
-      fits = rw (toZ-pos w64 {n = s .args .posts} (omega (arith, s .pre .posts-most))) (number-fits (s .args .posts) (s .pre .posts-most));
+      fits = rw (toZ-pos w64 {n = s .args .posts} (omega (arith, s .pre .posts-most))) (small-fits (s .args .posts) (omega (arith, s .pre .posts-most)));
       room = omega (arith, reaches-2 p, s .pre .room);
     }
 
@@ -81,7 +82,7 @@ put-whole-requires-4 : tie.Need-put-whole-requires-4
 put-whole-requires-4 c κs =
     let p = c .before .before .before in
     let s = start (p .before .before .before .before .before .before .before .before) in
-    record { fits = number-fits 1 (omega arith); room = omega (arith, reaches-3 p, s .pre .room) }
+    record { fits = small-fits 1 (omega arith); room = omega (arith, reaches-3 p, s .pre .room) }
 
 same-length : tie.Need-same-length
 same-length c = search needs

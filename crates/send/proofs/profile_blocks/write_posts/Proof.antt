@@ -12,7 +12,8 @@ use Rattle.spell.specs.Spell.{integerText}
 use Rattle.spell.proofs.Fits.{integer-length}
 use Rattle.written.specs.Cells.{postOf}
 use Rattle.written.specs.Blocks.{postsText}
-use Rattle.send.proofs.ProfileText.{named, posts-none, post-put, posts-all, sent-fits}
+use Rattle.written.proofs.PostsSent.{sent-fits}
+use Rattle.send.proofs.ProfileText.{named, posts-none, post-put, posts-all}
 use Rattle.send.proofs.profile_blocks.write_posts.Statement.{statement}
 use Rattle.send.proofs.profile_blocks.write_posts.Tie as tie
 

@@ -7,7 +7,8 @@ use mir.Facts.{toZ-ofZ}
 use Rattle.spell.specs.Pieces.{Puts}
 use Rattle.spell.specs.Spell.{realText}
 use Rattle.spell.proofs.Pieces.{joined}
-use Rattle.send.proofs.ProfileText.{named, Reaches, past-real, zero-fits}
+use Rattle.written.proofs.PiecesSent.{zero-fits}
+use Rattle.send.proofs.ProfileText.{named, Reaches, past-real}
 use borrow.Author.Needs.{needs}
 use Rattle.send.proofs.profile_blocks.write_reals.Statement.{statement}
 use Rattle.send.proofs.profile_blocks.write_reals.Tie as tie

@@ -13,8 +13,8 @@ use Rattle.written.specs.Blocks.{profileBlock}
 use Rattle.send.specs.ScanSteps.{columnAt}
 use Rattle.send.specs.WholeSteps.{blocksText}
 use Rattle.send.proofs.ProfileText.{named}
-use Rattle.send.proofs.ScanLaws.{column-room, posts-most}
-use Rattle.send.proofs.WholeText.{sizes, block-put, block-more}
+use Rattle.send.proofs.ScanLaws.{sizes, column-room, posts-most}
+use Rattle.send.proofs.WholeText.{block-put, block-more}
 use Rattle.send.proofs.whole_sheet.write_column.Statement.{statement}
 use Rattle.send.proofs.whole_sheet.write_column.Tie as tie
 

@@ -4,9 +4,9 @@ use mathlib.Core.Path.{refl}
 use native.Mathlib.Omega.{arith}
 use lib.IntN.{pos}
 use Rattle.written.specs.Blocks.{piecesBy}
+use Rattle.written.proofs.PiecesSent.{modest}
 use Rattle.send.specs.ZeroSteps.{numbersBy}
 use Rattle.send.proofs.ZeroTable.{told}
-use Rattle.send.proofs.ZeroWalk.{modest}
 use borrow.Author.Needs.{needs}
 use Rattle.send.proofs.zero.numbers.Statement.{statement}
 use Rattle.send.proofs.zero.numbers.Tie as tie

@@ -6,8 +6,9 @@ use mir.Facts.{toZ-ofZ}
 use mathlib.Core.List.{List}
 use lib.IntN.{ℤ, pos}
 use lib.ListN.{getD}
+use Rattle.written.proofs.PiecesSent.{all-fit}
 use Rattle.send.proofs.ZeroTable.{told}
-use Rattle.send.proofs.ZeroWalk.{Going, going, written-start, written-turn, written-end, all-fit}
+use Rattle.send.proofs.ZeroWalk.{Going, going, written-start, written-turn, written-end}
 use Rattle.send.proofs.zero.write_zero.Statement.{statement}
 use Rattle.send.proofs.zero.write_zero.Tie as tie
 

@@ -1,0 +1,209 @@
+-- Block 0 as it is sent: every number of a good header fits its field, so each piece fills its place, and the block is 1,024 bytes.
+use mathlib.Core.Bool.{Bool, true, false, cond}
+use mathlib.Core.List.{List, [], _∷_, _++_, map}
+use mathlib.Core.Path.{_≡_, refl, _∙_, ap₂}
+use Prim.Native.Nat.{ℕ, zero, suc, _+_, _*_, _-_, _^_, _≤_}
+use native.Mathlib.Omega.{arith}
+use borrow.Author.Tests.{leb-true, ltb-true}
+use lib.Dec.{leb, ltb, eqb}
+use lib.IntN.{ℤ, pos, natAbs}
+use lib.ListN.{length, drop, getD, length-append, length-drop}
+use lib.Seq.{length-take-le}
+use Rattle.laws.specs.Sign.{_and_}
+use Rattle.laws.proofs.Tables.{all}
+use Rattle.laws.proofs.Tests.{and-first, and-second, and-both}
+use Rattle.sheet.specs.RecordA.{limits, inRange, billion, columnsOf}
+use Rattle.sheet.specs.declared.record_a.Corner.{Corner}
+use Rattle.sheet.specs.declared.record_a.Header.{Header}
+use Rattle.sheet.specs.declared.record_a.Limits.{Limits}
+use Rattle.session.specs.Session.{isRealNumber, cornerReal, headerObeys}
+use Rattle.session.proofs.Facts.{Ranged, header-facts, split}
+use Rattle.spell.specs.Spell.{integerFits, realFits}
+use Rattle.spell.proofs.Fits.{fits-real, integer-fits, integer-length, real-length, whole-spacing-fits, fine-spacing-fits, thousands-fit}
+use Rattle.spell.proofs.Texts.{minus-short}
+use Rattle.meaning.specs.Text.{joined}
+use Rattle.meaning.specs.Rules.{leastStated, greatestStated}
+use Rattle.written.specs.Blocks.{Piece, pieceText, sheetCells, piecesBy, blockZero}
+use Rattle.written.specs.Blocks.Piece.{keeps, whole, real, spacing}
+
+-- ---- a piece that fits fills its place
+
+abbrev pub pieceFits : Piece → Bool
+pieceFits (keeps first width) = leb (first - 1 + width) 1024
+pieceFits (whole n) = integerFits 6 (pos n)
+pieceFits (real z) = realFits 15 24 z
+pieceFits (spacing v) = realFits 6 12 (pos v)
+
+abbrev pub pieceWidth : Piece → ℕ
+pieceWidth (keeps first width) = width
+pieceWidth (whole n) = 6
+pieceWidth (real z) = 24
+pieceWidth (spacing v) = 12
+
+-- how many bytes stand before piece i
+abbrev pub bytesBefore : List Piece → ℕ → ℕ
+bytesBefore [] i = 0
+bytesBefore (p ∷ ps) zero = 0
+bytesBefore (p ∷ ps) (suc i) = pieceWidth p + bytesBefore ps i
+
+abbrev pub nothing : Piece
+nothing = keeps 1 0
+
+pub fit-at : (ps : List Piece) → all pieceFits ps ≡ true → (i : ℕ) → pieceFits (getD ps i nothing) ≡ true
+fit-at [] t i = refl
+fit-at (p ∷ ps) t zero = and-first (pieceFits p) (all pieceFits ps) t
+fit-at (p ∷ ps) t (suc i) = fit-at ps (and-second (pieceFits p) (all pieceFits ps) t) i
+
+module _ (template : List ℕ) (long : length template ≡ 1024) where
+  pub piece-length : (p : Piece) → pieceFits p ≡ true → length (pieceText template p) ≡ pieceWidth p
+  piece-length (keeps first width) f =
+      length-take-le width (drop (first - 1) template)
+      (omega (arith, length-drop (first - 1) template, long, leb-true (first - 1 + width) 1024 f))
+  piece-length (whole n) f = integer-length 6 (pos n) f
+  piece-length (real z) f = real-length 15 24 z 68 f
+  piece-length (spacing v) f = real-length 6 12 (pos v) 69 f
+
+  pieces-length : (ps : List Piece) → all pieceFits ps ≡ true
+      → length (joined (map (pieceText template) ps)) ≡ bytesBefore ps (length ps)
+  pieces-length [] t = refl
+  pieces-length (p ∷ ps) t =
+      length-append (pieceText template p) (joined (map (pieceText template) ps))
+      ∙ ap₂ _+_ (piece-length p (and-first (pieceFits p) (all pieceFits ps) t))
+      (pieces-length ps (and-second (pieceFits p) (all pieceFits ps) t))
+
+-- ---- the numbers of a good header that have no sign
+
+most : (l : Limits) (v : ℕ) → inRange l v ≡ true → v ≤ l .greatest
+most l v t = leb-true v (l .greatest) (and-first (leb v (l .greatest)) _ (and-second (leb (l .least) v) _ t))
+
+zone-most : (a b : Bool) (v : ℕ)
+    → inRange (cond a (limits 0 0 1 9) (cond b (limits 1 60 1 9) (limits 1 9999 1 9))) v ≡ true → v ≤ 9999
+zone-most true b v t = omega (arith, most (limits 0 0 1 9) v t)
+zone-most false true v t = omega (arith, most (limits 1 60 1 9) v t)
+zone-most false false v t = omega (arith, most (limits 1 9999 1 9) v t)
+
+ground-most : (a b : Bool) (v : ℕ)
+    → inRange (cond a (limits 3 3 1 9) (cond b (limits 2 2 1 9) (limits 1 2 1 9))) v ≡ true → v ≤ 9999
+ground-most true b v t = omega (arith, most (limits 3 3 1 9) v t)
+ground-most false true v t = omega (arith, most (limits 2 2 1 9) v t)
+ground-most false false v t = omega (arith, most (limits 1 2 1 9) v t)
+
+pub record Modest (h : Header) : Type 0 where
+  pub level : h .level ≤ 9999
+  pub system : h .system ≤ 9999
+  pub zone : h .zone ≤ 9999
+  pub ground : h .ground ≤ 9999
+  pub vertical : h .vertical ≤ 9999
+  pub xstep : h .xstep ≤ 9999 * 10 ^ 9
+  pub ystep : h .ystep ≤ 9999 * 10 ^ 9
+  pub zstep : h .zstep ≤ 10 ^ 9
+
+pub modest : (h : Header) → headerObeys h ≡ true → Modest h
+modest h good =
+    let f = header-facts h good in
+    record {
+      level = omega (arith, f .level .greatest);
+      system = omega (arith, f .system);
+      zone = zone-most (eqb (h .system) 0) (eqb (h .system) 1) (h .zone) (f .zone);
+      ground = ground-most (eqb (h .system) 0) (eqb (h .system) 1) (h .ground) (f .ground);
+      vertical = omega (arith, f .vertical .greatest);
+      xstep = f .xstep .greatest;
+      ystep = f .ystep .greatest;
+      zstep = omega (arith, f .zstep .greatest, f .zstep .step);
+    }
+
+pub small-fits : (n : ℕ) → n ≤ 9999 → integerFits 6 (pos n) ≡ true
+small-fits n h = integer-fits 5 6 (pos n) (omega arith) (omega arith) (omega arith) (omega arith)
+
+-- ---- its reals
+
+pub zero-fits : realFits 15 24 (pos 0) ≡ true
+zero-fits = thousands-fit (pos 0) (omega arith) refl
+
+-- both numbers of a corner fit
+abbrev pub CornerFits : Corner → Type 0
+CornerFits c = (realFits 15 24 (c .x) ≡ true) × (realFits 15 24 (c .y) ≡ true)
+
+-- what a header's real can hold fits its field again
+number-fits : (z : ℤ) → isRealNumber z ≡ true → realFits 15 24 z ≡ true
+number-fits z t =
+    let a = split (ltb (natAbs z) (10 ^ 18)) _ t in
+    fits-real 15 24 z
+    (record { modest = ltb-true (natAbs z) (10 ^ 18) (a .0); few = a .1; room = omega (arith, minus-short z) })
+
+corner-fits : (c : Corner) → cornerReal c ≡ true → CornerFits c
+corner-fits c t =
+    let a = split (isRealNumber (c .x)) _ t in
+    (number-fits (c .x) (a .0), number-fits (c .y) (a .1))
+
+spacing-fits : (v : ℕ) → Ranged billion (9999 * billion) billion v → realFits 6 12 (pos v) ≡ true
+spacing-fits v f = whole-spacing-fits v (f .least) (f .greatest) (f .step)
+
+pub record HeaderReals (h : Header) : Type 0 where
+  pub sw : CornerFits (h .sw)
+  pub nw : CornerFits (h .nw)
+  pub ne : CornerFits (h .ne)
+  pub se : CornerFits (h .se)
+  pub xstep : realFits 6 12 (pos (h .xstep)) ≡ true
+  pub ystep : realFits 6 12 (pos (h .ystep)) ≡ true
+  pub zstep : realFits 6 12 (pos (h .zstep)) ≡ true
+
+pub header-reals : (h : Header) → headerObeys h ≡ true → HeaderReals h
+header-reals h good =
+    let f = header-facts h good in
+    let z = f .zstep in
+    let sw = split (cornerReal (h .sw)) _ (f .reals) in
+    let nw = split (cornerReal (h .nw)) _ (sw .1) in
+    let ne = split (cornerReal (h .ne)) _ (nw .1) in
+    let se = split (cornerReal (h .se)) _ (ne .1) in
+    record {
+      sw = corner-fits (h .sw) (sw .0);
+      nw = corner-fits (h .nw) (nw .0);
+      ne = corner-fits (h .ne) (ne .0);
+      se = corner-fits (h .se) (se .0);
+      xstep = spacing-fits (h .xstep) (f .xstep);
+      ystep = spacing-fits (h .ystep) (f .ystep);
+      zstep = fine-spacing-fits (h .zstep) (omega (arith, z .least)) (omega (arith, z .greatest, z .step)) (z .step);
+    }
+
+-- ---- block 0
+
+pub all-fit : (h : Header) (least greatest : ℤ) (columns : ℕ) → headerObeys h ≡ true → realFits 15 24 least ≡ true
+    → realFits 15 24 greatest ≡ true → columns ≤ 2048 → all pieceFits (piecesBy h least greatest columns) ≡ true
+unfolding piecesBy
+all-fit h least greatest columns good low high few =
+    let m = modest h good in
+    let r = header-reals h good in
+    and-both (small-fits (h .level) (m .level))
+    (and-both (small-fits 1 (omega arith))
+    (and-both (small-fits (h .system) (m .system))
+    (and-both (small-fits (h .zone) (m .zone))
+    (and-both (small-fits (h .ground) (m .ground))
+    (and-both (small-fits (h .vertical) (m .vertical))
+    (and-both (small-fits 4 (omega arith))
+    (and-both (r .sw .0)
+    (and-both (r .sw .1)
+    (and-both (r .nw .0)
+    (and-both (r .nw .1)
+    (and-both (r .ne .0)
+    (and-both (r .ne .1)
+    (and-both (r .se .0)
+    (and-both (r .se .1)
+    (and-both low
+    (and-both high
+    (and-both zero-fits
+    (and-both (small-fits 0 (omega arith))
+    (and-both (r .xstep)
+    (and-both (r .ystep)
+    (and-both (r .zstep)
+    (and-both (small-fits 1 (omega arith))
+    (and-both (small-fits columns (omega arith)) refl)))))))))))))))))))))))
+
+pub zero-length : (template : List ℕ) (h : Header) (grid : List ℤ) → length template ≡ 1024 → headerObeys h ≡ true
+    → realFits 15 24 (leastStated (sheetCells h grid)) ≡ true → realFits 15 24 (greatestStated (sheetCells h grid)) ≡ true
+    → length (blockZero template h grid) ≡ 1024
+unfolding blockZero piecesBy
+zero-length template h grid long good low high =
+    let cells = sheetCells h grid in
+    pieces-length template long (piecesBy h (leastStated cells) (greatestStated cells) (columnsOf h))
+    (all-fit h (leastStated cells) (greatestStated cells) (columnsOf h) good low high (header-facts h good .columns .1))
