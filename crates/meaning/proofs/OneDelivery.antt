@@ -14,7 +14,7 @@ use lib.Seq.{sets}
 use Rattle.number.proofs.GrammarParts.{by-test}
 use Rattle.sheet.specs.RecordA.{faultOf, headerOf, recordA, rowsOf}
 use Rattle.sheet.specs.declared.record_a.Header.{Header}
-use Rattle.session.specs.Session.{fresh, noProfile, sound}
+use Rattle.session.specs.Session.{noProfile, sound}
 use Rattle.session.specs.declared.Session.{Session}
 use Rattle.load.specs.Posts.{void, filledIn}
 use Rattle.load.specs.Deliver.{Verdict, again, wrong, begins, fills, answerOf, cellsBy, cellsOf, begun, beginning, later, complete, nextCell, verdictOf}
@@ -100,9 +100,6 @@ module _ (text : List ℕ) (lent : List ℤ) (block : List ℕ) where
       -- ---- block 0
 
       module _ (none : blocksIn text ≡ 0) where
-        text-fresh : sessionOf text ≡ fresh
-        text-fresh = let e : eqb (blocksIn text) 0 ≡ true = eq-eqb (blocksIn text) 0 none in rw e
-
         text-lent : gridOf text lent ≡ lent
         text-lent = let e : eqb (blocksIn text) 0 ≡ true = eq-eqb (blocksIn text) 0 none in rw e
 

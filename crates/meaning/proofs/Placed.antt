@@ -105,20 +105,11 @@ module _ (text : List ℕ) (kept : firstBreach text .kind ≡ 0) where
   pub header-says : Heading (headerIn text)
   header-says = header-facts (headerIn text) (sheet-obeys (blockAt text 0) (headerIn text) header-read)
 
-  pub some-rows : 1 ≤ rowsIn text
-  some-rows = header-says .rows .0
-
-  pub most-rows : rowsIn text ≤ 2048
-  most-rows = header-says .rows .1
-
   pub some-columns : 1 ≤ columnsIn text
   some-columns = header-says .columns .0
 
   pub some-profiles : 1 ≤ profilesIn text
   some-profiles = header-says .profiles .least
-
-  pub profiles-room : profilesIn text ≤ columnsIn text
-  profiles-room = header-says .room
 
   -- every rule of a profile that has begun is kept
   pub profile-kept : (j : ℕ) → j < profilesIn text → startOf text j < blocksIn text → Kept (profileRules text j)

@@ -24,21 +24,25 @@ use Rattle.meaning.proofs.Starts.{next-start, start-order, closed-is}
 use Rattle.meaning.proofs.Joined.{Extends, Here, header-same, same-start, not-over, posts-after, newHeights, heights-grow, all-grow}
 use Rattle.meaning.proofs.Counted.{counted-on}
 
--- the session of a text whose profile c is still open
-abbrev pub openSession : List ℕ → ℕ → Session
-openSession text c =
+-- the session of a text by how many of its profiles are closed, and the one after them
+abbrev sessionBy : List ℕ → ℕ → Profile → Session
+sessionBy text closed profile =
     record {
       header = headerIn text;
       taken = blocksIn text;
-      closed = c;
+      closed = closed;
       posts = length (allHeights text);
       filled = filledIn (allHeights text);
       low = leastOf (filledOnly (allHeights text));
       high = greatestOf (filledOnly (allHeights text));
       column = columnIn text 0;
       finished = 0;
-      profile = openProfile text c;
+      profile = profile;
     }
+
+-- profile c is still open
+abbrev pub openSession : List ℕ → ℕ → Session
+openSession text c = sessionBy text c (openProfile text c)
 
 -- profile c of the longer text, with the posts that the shorter one has
 abbrev pub readSoFar : List ℕ → List ℕ → ℕ → Profile
@@ -148,6 +152,29 @@ module _ (text more block : List ℕ) (k : ℕ) (x : Extends text more block k) 
       let le = ltb-false (blocksIn more) (startOf more (suc c)) t in
       le-ltb (postsIn text c + length hs) m (omega (arith, r, le, e)) ∙ sym t)
 
+  grown : (closed : ℕ) (profile : Profile) → closed ≡ closedIn more → begunSession more .profile ≡ profile
+      → blocksIn more ≤ startOf more (suc c) → begunSession more ≡ sessionBy more closed profile
+  grown closed profile n p le =
+      let col : ltb 1 (blocksIn more) ≡ true = lt-ltb 1 (blocksIn more) (omega (arith, x .one-more, some)) in
+      let fin : ltb (endOf more) (blocksIn more) ≡ false
+      = le-ltb (endOf more) (blocksIn more)
+      (omega (arith, le, start-order more (suc c) (profilesIn more) (omega (arith, here .below-n, same-n)))) in
+      let w : begunSession more .column ≡ columnIn more 0 = rw col in
+      let f : begunSession more .finished ≡ 0 = rw fin in
+      λ i.
+      record {
+        header = headerIn more;
+        taken = blocksIn more;
+        closed = sym n i;
+        posts = length (allHeights more);
+        filled = filledIn (allHeights more);
+        low = leastOf (filledOnly (allHeights more));
+        high = greatestOf (filledOnly (allHeights more));
+        column = w i;
+        finished = f i;
+        profile = p i;
+      }
+
   module _ (left : blocksIn more < startOf more (suc c)) where
     still-closed : closedIn more ≡ c
     still-closed =
@@ -165,26 +192,8 @@ module _ (text more block : List ℕ) (k : ℕ) (x : Extends text more block k) 
 
     pub session-open : openSession more c ≡ begunSession more
     session-open =
-        let col : ltb 1 (blocksIn more) ≡ true = lt-ltb 1 (blocksIn more) (omega (arith, x .one-more, some)) in
-        let fin : ltb (endOf more) (blocksIn more) ≡ false
-        = le-ltb (endOf more) (blocksIn more)
-        (omega (arith, left, start-order more (suc c) (profilesIn more) (omega (arith, here .below-n, same-n)))) in
         let p : begunSession more .profile ≡ openProfile more c = rw (still-open, still-closed) in
-        let w : columnIn more 0 ≡ begunSession more .column = rw col in
-        let f : 0 ≡ begunSession more .finished = rw fin in
-        λ i.
-        record {
-          header = headerIn more;
-          taken = blocksIn more;
-          closed = sym still-closed i;
-          posts = length (allHeights more);
-          filled = filledIn (allHeights more);
-          low = leastOf (filledOnly (allHeights more));
-          high = greatestOf (filledOnly (allHeights more));
-          column = w i;
-          finished = f i;
-          profile = sym p i;
-        }
+        sym (grown c (openProfile more c) (sym still-closed) p (omega (arith, left)))
 
   module _ (over : startOf more (suc c) ≤ blocksIn more) where
     pub exactly : startOf more (suc c) ≡ blocksIn more
@@ -203,24 +212,6 @@ module _ (text more block : List ℕ) (k : ℕ) (x : Extends text more block k) 
 
     pub session-closed : closedSession (openSession more c) ≡ begunSession more
     session-closed =
-        let col : ltb 1 (blocksIn more) ≡ true = lt-ltb 1 (blocksIn more) (omega (arith, x .one-more, some)) in
-        let fin : ltb (endOf more) (blocksIn more) ≡ false
-        = le-ltb (endOf more) (blocksIn more)
-        (omega (arith, exactly, start-order more (suc c) (profilesIn more) (omega (arith, here .below-n, same-n)))) in
         let n : c + 1 ≡ closedIn more = (omega arith) ∙ sym now-closed in
         let p : begunSession more .profile ≡ noProfile = rw now-idle in
-        let w : columnIn more 0 ≡ begunSession more .column = rw col in
-        let f : 0 ≡ begunSession more .finished = rw fin in
-        λ i.
-        record {
-          header = headerIn more;
-          taken = blocksIn more;
-          closed = n i;
-          posts = length (allHeights more);
-          filled = filledIn (allHeights more);
-          low = leastOf (filledOnly (allHeights more));
-          high = greatestOf (filledOnly (allHeights more));
-          column = w i;
-          finished = f i;
-          profile = sym p i;
-        }
+        sym (grown (c + 1) noProfile n p (omega (arith, exactly)))

@@ -35,10 +35,6 @@ by-append [] ys v = refl
 by-append (b ∷ xs) ys v =
     by-cons b (xs ++ ys) v ∙ ap (byBreach b) (by-append xs ys v) ∙ sym (by-cons b xs (byBreach (firstBroken ys) v))
 
-pub by-rule : (kept : Bool) (b : Breach) (v w : Verdict) → byBreach b v ≡ w → byBreach (rule kept b) v ≡ cond kept v w
-by-rule true b v w e = refl
-by-rule false b v w e = e
-
 -- ---- closing
 
 -- five rules, the last three asked with the last profile only

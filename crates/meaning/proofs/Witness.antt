@@ -118,24 +118,11 @@ module _ (r : Reader) (keeps : Keeps r) where
       ∙ after-block2
 
   -- and number by number
-  pub paper-grid : afterAll r (atFirst paperLent) paperSheet .grid
-      ≡ pos 1000 ∷ void ∷ pos 1200 ∷ void ∷ pos 1100 ∷ pos 900 ∷ pos 7 ∷ []
-  paper-grid = ap (λ (k : Desk). k .grid) paper-desk
-
   pub paper-taken : afterAll r (atFirst paperLent) paperSheet .session .taken ≡ 3
   paper-taken = ap (λ (k : Desk). k .session .taken) paper-desk
-
-  pub paper-closed : afterAll r (atFirst paperLent) paperSheet .session .closed ≡ 2
-  paper-closed = ap (λ (k : Desk). k .session .closed) paper-desk
 
   pub paper-posts : afterAll r (atFirst paperLent) paperSheet .session .posts ≡ 5
   paper-posts = ap (λ (k : Desk). k .session .posts) paper-desk
 
   pub paper-filled : afterAll r (atFirst paperLent) paperSheet .session .filled ≡ 4
   paper-filled = ap (λ (k : Desk). k .session .filled) paper-desk
-
-  pub paper-low : afterAll r (atFirst paperLent) paperSheet .session .low ≡ pos 900
-  paper-low = ap (λ (k : Desk). k .session .low) paper-desk
-
-  pub paper-high : afterAll r (atFirst paperLent) paperSheet .session .high ≡ pos 1200
-  paper-high = ap (λ (k : Desk). k .session .high) paper-desk

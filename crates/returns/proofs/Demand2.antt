@@ -187,7 +187,7 @@ module _ (w : Writer) (keeps : KeepsWriting w) where
         = ap (λ (x : Desk). complete (x .session)) (sym (desks-alike g g g′ same k (omega arith) (omega (arith, lt))))
         ∙ written-complete template g can lentBlock long ours ours-keeps g (can .room) in
         none-when-complete ours ours-keeps d (delivery (λ b. w .block template g′ b (lentBlock b)) k)
-        (omega (arith, start-from (headerOf template) g (columnsOf (headerOf template)))) done
+        (omega (arith, start-from (rowsOf (headerOf template)) g (columnsOf (headerOf template)))) done
         (written-taken template g′ can′ lentBlock long ours ours-keeps g (can .room) k lt)
 
     -- two grids of one template that send alike have as many blocks

@@ -24,7 +24,7 @@ use Rattle.load.proofs.Heights.{sameZ-is, sameZ-fails}
 use Rattle.meaning.specs.Rules.{postsOfBlock, postsByte}
 use Rattle.written.specs.Cells.{canSend, postOf, cellsSent}
 use Rattle.written.specs.Blocks.{headText, postsText, filledUp, profileBlock}
-use Rattle.written.proofs.PostsSent.{quotient-small, filled-can, post-small, post-fits, post-length, AllSent, first-sent, posts-length, cellsOfBlock, block-sends}
+use Rattle.written.proofs.PostsSent.{quotient-small, filled-can, post-small, post-fits, post-length, AllSent, first-sent, posts-length, cellsOfBlock, beforePosts, block-is, block-sends, block-room}
 
 -- ---- one piece of a text
 
@@ -148,40 +148,35 @@ module _ (h : Header) (grid : List ℤ) (c : ℕ) (some : 1 ≤ zOf h) (all : Al
   abbrev cells : List ℤ
   cells = cellsSent h grid c
 
-  part : (k : ℕ) → AllSent (zOf h) (cellsOfBlock cells k)
-  part k = block-sends (zOf h) cells k all
+  -- the byte of its first post
+  place : (k : ℕ) → postsByte k ≡ 1 + length (beforePosts h grid c k)
+  place zero = omega (arith, long)
+  place (suc k) = refl
 
-  first-room : length (headText h grid c) + 6 * length (cellsOfBlock cells 0) ≤ 1024
-  first-room = omega (arith, long, length-take 146 cells)
+  module _ (k : ℕ) where
+    abbrev before : List ℕ
+    before = beforePosts h grid c k
 
-  next-room : (k : ℕ) → 0 + 6 * length (cellsOfBlock cells (suc k)) ≤ 1024
-  next-room k = omega (arith, length-take 170 (drop (146 + 170 * k) cells))
+    abbrev here : List ℤ
+    here = cellsOfBlock cells k
 
-  pub block-posts : (k : ℕ) → postsFault (postsOfBlock (length cells) k) (postsByte k) (profileBlock h grid c k) ≡ fault 0 0
-  unfolding profileBlock
-  block-posts zero =
-      filled-posts (zOf h) some (headText h grid c) (take 146 cells) (part 0) first-room (postsOfBlock (length cells) 0) 145
-      (posts-of-block cells 0) (omega (arith, long))
-  block-posts (suc k) =
-      filled-posts (zOf h) some [] (cellsOfBlock cells (suc k)) (part (suc k)) (next-room k) (postsOfBlock (length cells) (suc k)) 1
-      (posts-of-block cells (suc k)) refl
+    sends : AllSent (zOf h) here
+    sends = block-sends h grid c all long k
 
-  pub block-rest : (k : ℕ)
-      → restFault (postsByte k + 6 * postsOfBlock (length cells) k) (profileBlock h grid c k) ≡ fault 0 0
-  unfolding profileBlock
-  block-rest zero =
-      filled-rest (zOf h) some (headText h grid c) (take 146 cells) (part 0) first-room (postsOfBlock (length cells) 0) 145
-      (posts-of-block cells 0) (omega (arith, long))
-  block-rest (suc k) =
-      filled-rest (zOf h) some [] (cellsOfBlock cells (suc k)) (part (suc k)) (next-room k) (postsOfBlock (length cells) (suc k)) 1
-      (posts-of-block cells (suc k)) refl
+    room : length before + 6 * length here ≤ 1024
+    room = block-room h grid c all long k
 
-  pub block-heights : (k : ℕ)
-      → heights (zOf h) (pos 0) (postsOf (postsOfBlock (length cells) k) (postsByte k) (profileBlock h grid c k)) ≡ cellsOfBlock cells k
-  unfolding profileBlock
-  block-heights zero =
-      filled-heights (zOf h) some (headText h grid c) (take 146 cells) (part 0) first-room (postsOfBlock (length cells) 0) 145
-      (posts-of-block cells 0) (omega (arith, long))
-  block-heights (suc k) =
-      filled-heights (zOf h) some [] (cellsOfBlock cells (suc k)) (part (suc k)) (next-room k) (postsOfBlock (length cells) (suc k)) 1
-      (posts-of-block cells (suc k)) refl
+    pub block-posts : postsFault (postsOfBlock (length cells) k) (postsByte k) (profileBlock h grid c k) ≡ fault 0 0
+    block-posts =
+        ap (postsFault (postsOfBlock (length cells) k) (postsByte k)) (block-is h grid c k)
+        ∙ filled-posts (zOf h) some before here sends room (postsOfBlock (length cells) k) (postsByte k) (posts-of-block cells k) (place k)
+
+    pub block-rest : restFault (postsByte k + 6 * postsOfBlock (length cells) k) (profileBlock h grid c k) ≡ fault 0 0
+    block-rest =
+        ap (restFault (postsByte k + 6 * postsOfBlock (length cells) k)) (block-is h grid c k)
+        ∙ filled-rest (zOf h) some before here sends room (postsOfBlock (length cells) k) (postsByte k) (posts-of-block cells k) (place k)
+
+    pub block-heights : heights (zOf h) (pos 0) (postsOf (postsOfBlock (length cells) k) (postsByte k) (profileBlock h grid c k)) ≡ here
+    block-heights =
+        ap (λ (b : List ℕ). heights (zOf h) (pos 0) (postsOf (postsOfBlock (length cells) k) (postsByte k) b)) (block-is h grid c k)
+        ∙ filled-heights (zOf h) some before here sends room (postsOfBlock (length cells) k) (postsByte k) (posts-of-block cells k) (place k)

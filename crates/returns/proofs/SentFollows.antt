@@ -11,7 +11,7 @@ use lib.ListN.{length, take, drop, length-drop}
 use lib.Seq.{take-all, take-length}
 use Rattle.number.proofs.GrammarParts.{by-test}
 use Rattle.sheet.specs.Lattice.{latticeOf, placeOf}
-use Rattle.sheet.specs.RecordA.{recordA, headerOf, faultOf, columnsOf, west, east, south, north}
+use Rattle.sheet.specs.RecordA.{recordA, headerOf, faultOf, columnsOf, rowsOf, west, east, south, north}
 use Rattle.sheet.specs.declared.record_a.Checked.the-variants.{Sheet}
 use Rattle.sheet.specs.declared.record_a.Fault.{Fault}
 use Rattle.sheet.specs.declared.record_a.Header.{Header}
@@ -73,8 +73,8 @@ module _ (template : List ℕ) (h : Header) (grid : List ℤ) (read : recordA te
   rowSent c = firstRow (columnCells h grid c)
 
   pub start-is : (c : ℕ) → startBy cells c ≡ startSent h grid c
-  start-is zero = sym (first-start h grid)
-  start-is (suc c) = ap (λ (a : ℕ). a + blocksFor (length (cells c))) (start-is c) ∙ sym (start-next h grid c)
+  start-is zero = sym (first-start (rowsOf h) grid)
+  start-is (suc c) = ap (λ (a : ℕ). a + blocksFor (length (cells c))) (start-is c) ∙ sym (start-next (rowsOf h) grid c)
 
   -- block q of a column's profile
   here : (c q : ℕ) → c < columnsOf h → q < blocksFor (length (cells c)) → sent (startBy cells c + q) ≡ profileBlock h grid c q

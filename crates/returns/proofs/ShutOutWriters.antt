@@ -1,7 +1,7 @@
 -- Document 01, "How much a promise says" and "Writing": no writer that it names keeps the promise of `write_block`, and no real that is
 -- written needs more than 15 digits. The paper's sheet, sent, shuts the writers out; what fits a real's field carries the rest.
 use mathlib.Core.Bool.{Bool, true, false, cond}
-use mathlib.Core.List.{List, [], _∷_}
+use mathlib.Core.List.{List}
 use mathlib.Core.Path.{_≡_, refl, sym, _∙_, ap}
 use Prim.Native.Nat.{ℕ, _≤_, _<_}
 use native.Mathlib.Omega.{arith}
@@ -29,7 +29,7 @@ use Rattle.meaning.specs.Deliveries.{Reader, Keeps, Delivery, Desk, answered}
 use Rattle.meaning.specs.PaperSheet.{paperA, paperCells}
 use Rattle.meaning.specs.Rules.{leastStated, greatestStated}
 use Rattle.spell.specs.Spell.{spell, count, integerText, realFits}
-use Rattle.written.specs.Cells.{canSend, sendable, voidsBefore, upToLast, profileCells, cellsSent, startSent, columnWith}
+use Rattle.written.specs.Cells.{canSend, sendable, voidsBefore, upToLast, profileCells, cellsSent, startAt, columnFor}
 use Rattle.written.specs.Blocks.{sheetCells, piecesBy, piecesA, blockZero, xSent, ySent, profileBlock, blockSent}
 use Rattle.written.specs.Sending.{Fault, fault, sheetFault, blockFault}
 use Rattle.returns.specs.Writers.{Writer, KeepsWriting, CanBeSent}
@@ -46,11 +46,11 @@ zeros = replicate 1024 0
 
 -- blocks 0 and 1 are accepted
 paper-fine0 : blockFault paperA paperCells 0 1024 ≡ fault 0 0
-unfolding blockFault sheetFault recordA fields headerOf latticeOf integer real billionths places short paperA canSend sendable startSent profileCells upToLast voidsBefore
+unfolding blockFault sheetFault recordA fields headerOf latticeOf integer real billionths places short paperA canSend sendable startAt profileCells upToLast voidsBefore
 paper-fine0 = refl
 
 paper-fine1 : blockFault paperA paperCells 1 1024 ≡ fault 0 0
-unfolding blockFault sheetFault recordA fields headerOf latticeOf integer real billionths places short paperA canSend sendable startSent profileCells upToLast voidsBefore
+unfolding blockFault sheetFault recordA fields headerOf latticeOf integer real billionths places short paperA canSend sendable startAt profileCells upToLast voidsBefore
 paper-fine1 = refl
 
 -- block 0 begins with the `P` of its name, block 1 with a blank
@@ -62,7 +62,7 @@ unfolding blockSent blockZero piecesBy paperA
 letter0 = refl
 
 letter1 : firstByte (blockSent paperA (headerOf paperA) paperCells 1) ≡ 32
-unfolding blockSent headerOf latticeOf integer real billionths places short paperA columnWith startSent profileCells upToLast voidsBefore profileBlock integerText spell count
+unfolding blockSent headerOf latticeOf integer real billionths places short paperA columnFor startAt profileCells upToLast voidsBefore profileBlock integerText spell count
 letter1 = refl
 
 -- ---- no such writer keeps the promise

@@ -20,7 +20,7 @@ use Rattle.number.proofs.GrammarParts.{by-test}
 use Rattle.spell.specs.Spell.{realFits}
 use Rattle.spell.proofs.ReadBack.{integer-back, real-back, spacing-back}
 use Rattle.sheet.specs.Lattice.{notNegative}
-use Rattle.sheet.specs.RecordA.{Row, rows, fields, judge, judgeRow, firstFault, faultOf, recordA, headerOf, stretch, inRange, ranged, limits, zoneLimits, groundLimits, heightLimits, billion, columnsOf, rowsOf, west, east, south, north, oneTo2048, wholeFault, wholeAt}
+use Rattle.sheet.specs.RecordA.{Row, rows, fields, judge, judgeRow, firstFault, faultOf, recordA, headerOf, stretch, inRange, ranged, limits, zoneLimits, groundLimits, heightLimits, billion, columnsOf, rowsOf, oneTo2048, wholeFault, wholeAt}
 use Rattle.sheet.specs.RecordA.Rule.{words, form}
 use Rattle.sheet.specs.RecordASteps.{rowAt}
 use Rattle.sheet.specs.declared.record_a.Checked.the-variants.{Sheet, Refused}
@@ -30,7 +30,6 @@ use Rattle.sheet.proofs.HeaderA.{row-fine, verdict-sheet}
 use Rattle.sheet.proofs.RulesA.{sheet-exactly}
 use Rattle.session.specs.Session.{fieldsObey, headerObeys}
 use Rattle.session.proofs.Facts.{Ranged, Heading, header-facts}
-use Rattle.load.specs.Deliver.{cellsOf, zOf}
 use Rattle.load.proofs.SoundOut.{sheet-obeys}
 use Rattle.meaning.specs.Text.{joined}
 use Rattle.meaning.specs.Rules.{leastStated, greatestStated}
@@ -307,32 +306,3 @@ module _ (template : List ℕ) (h : Header) (grid : List ℤ) (is : recordA temp
 
   pub zero-reads : recordA (blockZero template h grid) ≡ Sheet (headerSent h grid)
   zero-reads = sym (verdict-sheet sent long zero-fine zero-whole) ∙ ap Sheet zero-header
-
--- ---- the lattice is the template's
-
-pub record SameLattice (h k : Header) : Type 0 where
-  pub columns : columnsOf k ≡ columnsOf h
-  pub rows : rowsOf k ≡ rowsOf h
-  pub cells : cellsOf k ≡ cellsOf h
-  pub z : zOf k ≡ zOf h
-  pub west : west k ≡ west h
-  pub east : east k ≡ east h
-  pub south : south k ≡ south h
-  pub north : north k ≡ north h
-  pub xstep : k .xstep ≡ h .xstep
-  pub ystep : k .ystep ≡ h .ystep
-
-pub same-lattice : (h : Header) (grid : List ℤ) → SameLattice h (headerSent h grid)
-same-lattice h grid =
-    record {
-      columns = refl;
-      rows = refl;
-      cells = refl;
-      z = refl;
-      west = refl;
-      east = refl;
-      south = refl;
-      north = refl;
-      xstep = refl;
-      ystep = refl;
-    }

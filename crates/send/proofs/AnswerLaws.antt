@@ -12,7 +12,7 @@ use Rattle.number.proofs.GrammarParts.{by-test}
 use Rattle.sheet.specs.RecordA.{headerOf, columnsOf, rowsOf}
 use Rattle.sheet.specs.declared.record_a.Header.{Header}
 use Rattle.load.proofs.SoundOut.{sheet-obeys}
-use Rattle.written.specs.Cells.{startSent, columnWith, blockCount}
+use Rattle.written.specs.Cells.{startAt, startSent, blockCount}
 use Rattle.written.specs.Blocks.{blockZero, profileBlock, blockSent}
 use Rattle.written.specs.Sending.{Fault, fault, sheetFault, blockFault, blockAfter, countOf}
 use Rattle.written.proofs.SheetPasses.{fine-passes}
@@ -21,11 +21,11 @@ use Rattle.send.specs.declared.Sent.the-variants.{Written, Refused}
 use Rattle.send.specs.declared.one_block.Judged.{Judged}
 use Rattle.send.specs.declared.one_block.Judged.the-variants.{Good, Bad}
 use Rattle.send.specs.declared.scan.Found.{Found}
-use Rattle.send.specs.ScanSteps.{Sizes, Finds, startAt}
+use Rattle.send.specs.ScanSteps.{Sizes, Finds}
 use Rattle.send.specs.SendSteps.{sentBy, judgedBy, ProfileAsked, ZeroAsked}
 use Rattle.send.specs.AnswerSteps.{LaterAsked, laterBlock, countFault, numbered}
 use Rattle.send.specs.WholeSteps.{FitAsked}
-use Rattle.send.proofs.ScanLaws.{start-sent, column-with, sizes}
+use Rattle.send.proofs.ScanLaws.{sizes}
 
 -- ---- a sheet that nothing stands against can be sent
 
@@ -145,7 +145,7 @@ pub asked-find : {h : Header} {grid : List ℤ} {number : ℕ} {block : List ℕ
     → columns ≡ columnsOf h → rows ≡ rowsOf h → LaterAsked h grid number block
     → Sizes columns rows grid × ((1 ≤ number) × (number < startAt rows grid columns))
 asked-find {h} {grid} {number} {block} columns rows e f a =
-    rw (e, f) (sizes (a .sheet), (a .later, rw (start-sent h grid (columnsOf h)) (a .below)))
+    rw (e, f) (sizes (a .sheet), (a .later, a .below))
 
 module _ (h : Header) {grid : List ℤ} {number : ℕ} {columns rows : ℕ} {r : Found}
     (e : columns ≡ columnsOf h) (f : rows ≡ rowsOf h) (found : Finds columns rows grid number r) where
@@ -168,11 +168,9 @@ module _ (h : Header) {grid : List ℤ} {number : ℕ} {columns rows : ℕ} {r :
   pub found-block : (after : List ℕ) → after ≡ profileBlock h grid (r .column) (number - r .start) → after ≡ laterBlock h grid number
   found-block after a =
       let d = finds-by in
-      let c : r .column ≡ columnWith h grid (columnsOf h) number = d .column-is ∙ column-with h grid (columnsOf h) number in
-      let s : r .start ≡ startSent h grid (r .column) = d .start-is ∙ start-sent h grid (r .column) in
       a
-      ∙ ap (λ (n : ℕ). profileBlock h grid (r .column) (number - n)) s
-      ∙ ap (λ (x : ℕ). profileBlock h grid x (number - startSent h grid x)) c
+      ∙ ap (λ (n : ℕ). profileBlock h grid (r .column) (number - n)) (d .start-is)
+      ∙ ap (λ (x : ℕ). profileBlock h grid x (number - startSent h grid x)) (d .column-is)
 
 -- ---- a numbered block
 

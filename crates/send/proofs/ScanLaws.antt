@@ -1,85 +1,30 @@
--- The scanned columns and blocks are the written ones; and what a walk along the columns keeps.
+-- What a walk along the columns keeps: sums stay small, and the first column that does not end before a block has it.
 use Prim.Native.Nat.{ℕ, zero, suc, _+_, _*_, _≤_, _<_}
 use mathlib.Core.List.{List}
-use mathlib.Core.Path.{_≡_, refl, sym, _∙_, ap}
+use mathlib.Core.Path.{_≡_, sym}
 use native.Mathlib.Nat.{suc-mul, mul-le-mul-right}
 use native.Mathlib.Numerals.{add-one}
 use native.Mathlib.Omega.{arith}
-use borrow.Author.Tests.{ltb-true, ltb-false, le-leb, lt-leb}
-use lib.Dec.{ltb}
 use lib.IntN.{ℤ}
 use lib.ListN.{length, drop, length-take, length-drop}
-use Rattle.number.proofs.GrammarParts.{by-test}
 use Rattle.sheet.specs.RecordA.{columnsOf, rowsOf}
 use Rattle.sheet.specs.declared.record_a.Header.{Header}
 use Rattle.session.proofs.Facts.{header-facts}
 use Rattle.load.specs.Posts.{blocksFor}
-use Rattle.written.specs.Cells.{cellsSent, firstRow, profileCells, startSent, columnWith}
-use Rattle.send.specs.ScanSteps.{columnAt, startAt, columnFor, Sizes, Finds}
-use Rattle.send.specs.SendSteps.{SendableSheet}
+use Rattle.written.specs.Cells.{columnAt, firstRow, profileCells, startAt}
 use Rattle.written.proofs.ColumnsSent.{cells-room}
-
--- ---- by the header
-
-module _ (h : Header) (grid : List ℤ) where
-  pub start-sent : (c : ℕ) → startAt (rowsOf h) grid c ≡ startSent h grid c
-  unfolding startAt startSent
-  start-sent zero = refl
-  start-sent (suc c) = ap (λ (n : ℕ). n + blocksFor (length (cellsSent h grid c))) (start-sent c)
-
-  pub column-with : (n number : ℕ) → columnFor (rowsOf h) grid n number ≡ columnWith h grid n number
-  unfolding columnFor columnWith
-  column-with zero number = refl
-  column-with (suc c) number = rw (start-sent (suc c), column-with c number)
+use Rattle.written.proofs.SheetSent.{first-start, start-next, column-with}
+use Rattle.send.specs.ScanSteps.{Sizes, Finds}
+use Rattle.send.specs.SendSteps.{SendableSheet}
 
 -- ---- the blocks of the columns
 
 blocks-most : (posts : ℕ) → posts ≤ 2048 → blocksFor posts ≤ 13
 blocks-most posts h = omega arith
 
-module _ (rows : ℕ) (grid : List ℤ) where
-  pub start-first : startAt rows grid 0 ≡ 1
-  unfolding startAt
-  start-first = refl
-
-  pub start-next : (c : ℕ) → startAt rows grid (suc c) ≡ startAt rows grid c + blocksFor (length (profileCells (columnAt rows grid c)))
-  unfolding startAt
-  start-next c = refl
-
-  pub start-more : (c start posts : ℕ) → start ≡ startAt rows grid c → posts ≡ length (profileCells (columnAt rows grid c))
-      → start + blocksFor posts ≡ startAt rows grid (c + 1)
-  start-more c start posts e f = rw (add-one c, start-next c, e, f)
-
-  later : (number n c : ℕ) → c ≤ n → number < startAt rows grid c → number < startAt rows grid n
-  later number zero c h k =
-      let e : c ≡ 0 = omega arith in
-      rw e at k
-  later number (suc n) c h k =
-      by-test (ltb n c)
-      (λ t.
-      let e : c ≡ suc n = omega (arith, ltb-true n c t) in
-      rw e at k)
-      (λ t. omega (arith, later number n c (ltb-false n c t) k, start-next n))
-
-  at-column : (number c : ℕ) → startAt rows grid c ≤ number → columnFor rows grid c number ≡ c
-  unfolding columnFor
-  at-column number zero h = refl
-  at-column number (suc c) h = rw (le-leb (startAt rows grid (suc c)) number h)
-
-  past-column : (number n c : ℕ) → c ≤ n → number < startAt rows grid (suc c) → columnFor rows grid n number ≡ columnFor rows grid c number
-  unfolding columnFor
-  past-column number zero c h k =
-      let e : c ≡ 0 = omega arith in
-      rw e
-  past-column number (suc n) c h k =
-      by-test (ltb n c)
-      (λ t.
-      let e : c ≡ suc n = omega (arith, ltb-true n c t) in
-      ap (λ (m : ℕ). columnFor rows grid m number) (sym e))
-      (λ t.
-      let g = ltb-false n c t in
-      let q = lt-leb (startAt rows grid (suc n)) number (later number (suc n) (suc c) (omega arith) k) in
-      rw q (past-column number n c g k))
+pub start-more : (rows : ℕ) (grid : List ℤ) (c start posts : ℕ) → start ≡ startAt rows grid c
+    → posts ≡ length (profileCells (columnAt rows grid c)) → start + blocksFor posts ≡ startAt rows grid (c + 1)
+start-more rows grid c start posts e f = rw (add-one c, start-next rows grid c, e, f)
 
 -- the sizes of a sheet that can be sent
 pub sizes : {h : Header} {grid : List ℤ} → SendableSheet h grid → Sizes (columnsOf h) (rowsOf h) grid
@@ -100,7 +45,7 @@ module _ {columns rows : ℕ} {grid : List ℤ} (s : Sizes columns rows grid) wh
         omega (arith, cells-room (columnAt rows grid c) (omega (arith, column-long, s .rows-least)), column-long, s .rows-most)
 
   pub start-most : (c : ℕ) → c ≤ columns → startAt rows grid c ≤ 1 + 13 * c
-  start-most zero h = omega (arith, start-first rows grid)
+  start-most zero h = omega (arith, first-start rows grid)
   start-most (suc c) h =
       omega
       (arith, start-most c (omega arith), start-next rows grid c, blocks-most (length (profileCells (columnAt rows grid c))) (posts-most c h))
@@ -122,7 +67,7 @@ module _ {columns rows : ℕ} {grid : List ℤ} (s : Sizes columns rows grid) wh
     pub finds : Finds columns rows grid number (record { column = c; start = start; row = row; posts = posts })
     finds =
         record {
-          column-is = sym (past-column rows grid number columns c (omega arith) to-next ∙ at-column rows grid number c (rw e at from));
+          column-is = sym (column-with rows grid columns c number h (rw e at from) to-next);
           start-is = e;
           row-is = f;
           posts-are = g;

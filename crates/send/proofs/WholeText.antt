@@ -1,13 +1,13 @@
 -- A whole sheet by its columns is its blocks in order: each column's blocks stand from its start on, and one more is one more piece put.
 use mathlib.Core.List.{List, [], _++_, map}
-use mathlib.Core.Path.{_≡_, refl, sym, _∙_, ap, ap₂}
+use mathlib.Core.Path.{_≡_, sym, _∙_, ap, ap₂}
 use Prim.Native.Nat.{ℕ, zero, suc, _+_, _*_, _≤_, _<_}
 use native.Mathlib.Numerals.{add-one}
 use native.Mathlib.Omega.{arith}
 use lib.IntN.{ℤ}
 use lib.ListN.{length, take, drop, length-drop}
 use lib.Seq.{take-all, length-take-le}
-use Rattle.sheet.specs.RecordA.{columnsOf}
+use Rattle.sheet.specs.RecordA.{columnsOf, rowsOf}
 use Rattle.sheet.specs.declared.record_a.Header.{Header}
 use Rattle.load.specs.Posts.{blocksFor}
 use Rattle.meaning.specs.Text.{from, below, joined}
@@ -21,7 +21,7 @@ use Rattle.written.proofs.BlocksSent.{zero-is, profile-is}
 use Rattle.send.specs.SendSteps.{SendableSheet}
 use Rattle.send.specs.WholeSteps.{blocksText, columnText, columnsText, wholeText}
 use Rattle.send.proofs.ProfileText.{field-put, named}
-use Rattle.send.proofs.ScanLaws.{start-sent, sizes, start-most}
+use Rattle.send.proofs.ScanLaws.{sizes, start-most}
 
 -- ---- texts joined
 
@@ -41,7 +41,7 @@ joined-more f k =
 pub count-most : {h : Header} {grid : List ℤ} → SendableSheet h grid → blockCount h grid ≤ 26625
 count-most {h} {grid} s =
     let z = sizes s in
-    omega (arith, start-sent h grid (columnsOf h), start-most z (columnsOf h) (omega arith), z .columns-most)
+    omega (arith, start-most z (columnsOf h) (omega arith), z .columns-most)
 
 -- ---- pieces put
 
@@ -66,7 +66,7 @@ module _ (h : Header) (grid : List ℤ) where
   -- where the next column starts
   pub next-start : (c at next : ℕ) → at ≡ 1024 * startSent h grid c → next ≡ at + 1024 * blocksFor (length (cellsSent h grid c))
       → next ≡ 1024 * startSent h grid (c + 1)
-  next-start c at next e f = rw (add-one c, start-next h grid c) (omega (arith, e, f))
+  next-start c at next e f = rw (add-one c, start-next (rowsOf h) grid c) (omega (arith, e, f))
 
   -- behind the last column nothing is left
   pub all-there : (n at long : ℕ) → at ≡ 1024 * startSent h grid n → n ≡ columnsOf h → long ≡ 1024 * blockCount h grid → at ≡ long
@@ -96,12 +96,12 @@ module _ (template : List ℕ) (h : Header) (grid : List ℤ) where
   columns-are : (n : ℕ) → n ≤ columnsOf h
       → joined (map sent (below (startSent h grid n))) ≡ blockZero template h grid ++ columnsText h grid n
   columns-are zero le =
-      ap (λ (k : ℕ). joined (map sent (below k))) (first-start h grid) ∙ ap (λ (l : List ℕ). l ++ []) (zero-is template h grid)
+      ap (λ (k : ℕ). joined (map sent (below k))) (first-start (rowsOf h) grid) ∙ ap (λ (l : List ℕ). l ++ []) (zero-is template h grid)
   columns-are (suc n) le =
       let s = startSent h grid n in
       let b = blocksFor (length (cellsSent h grid n)) in
       let z : 0 + s ≡ s = omega arith in
-      ap (λ (k : ℕ). joined (map sent (below k))) (start-next h grid n)
+      ap (λ (k : ℕ). joined (map sent (below k))) (start-next (rowsOf h) grid n)
       ∙ ap (λ (l : List ℕ). joined (map sent l)) (from-append 0 s b)
       ∙ ap joined (map-append sent (below s) (from (0 + s) b))
       ∙ joined-append (map sent (below s)) (map sent (from (0 + s) b))

@@ -11,7 +11,7 @@ use mir.Facts.{toZ-ofZ}
 use mir.Syntax.{w64}
 use mir.Val.{SFits, toZ, ofZ}
 use lib.Dec.{T, leb, eqb, leb→le, eqb→eq}
-use lib.IntN.{ℤ, pos}
+use lib.IntN.{ℤ}
 use lib.ListN.{length, take, drop, getD}
 use Rattle.laws.specs.Sign.{_and_}
 use Rattle.laws.proofs.Tables.{all-at, and-left, and-right}

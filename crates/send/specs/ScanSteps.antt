@@ -1,30 +1,18 @@
--- How the code scans a grid: the columns and blocks of document 01, "Writing", by their rows; ScanLaws has that they are the written ones.
-use Prim.Native.Nat.{ℕ, zero, suc, _+_, _*_, _≤_, _<_}
+-- How the code scans a grid: the sizes it asks, what it finds, and extremes from the last cell.
+use Prim.Native.Nat.{ℕ, _+_, _*_, _≤_, _<_}
 use mathlib.Core.Bool.{true, false, cond, not}
 use mathlib.Core.List.{List}
 use mathlib.Core.Path.{_≡_}
-use lib.Dec.{leb}
 use lib.IntN.{ℤ, pos}
-use lib.ListN.{length, take, drop}
+use lib.ListN.{length}
 use Rattle.sheet.specs.RecordA.{lesser, greater}
 use Rattle.load.specs.Posts.{void, sameZ, blocksFor}
 use Rattle.meaning.specs.Rules.{filledOnly, leastOf, greatestOf}
-use Rattle.written.specs.Cells.{isNone, firstRow, profileCells}
+use Rattle.written.specs.Cells.{isNone, columnAt, firstRow, profileCells, startAt, columnFor}
 use Rattle.send.specs.declared.scan.Found.{Found}
 use Rattle.send.specs.declared.scan.Running.{Running}
 
 -- ---- columns and blocks
-
-abbrev pub columnAt : ℕ → List ℤ → ℕ → List ℤ
-columnAt rows grid c = take rows (drop (c * rows) grid)
-
-unfoldable pub startAt : ℕ → List ℤ → ℕ → ℕ
-startAt rows grid zero = 1
-startAt rows grid (suc c) = startAt rows grid c + blocksFor (length (profileCells (columnAt rows grid c)))
-
-unfoldable pub columnFor : ℕ → List ℤ → ℕ → ℕ → ℕ
-columnFor rows grid zero number = 0
-columnFor rows grid (suc c) number = cond (leb (startAt rows grid (suc c)) number) (suc c) (columnFor rows grid c number)
 
 -- the sizes that record A's rules leave, in a grid that has the cells
 pub record Sizes (columns rows : ℕ) (grid : List ℤ) : Type 0 where

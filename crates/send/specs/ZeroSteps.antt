@@ -1,5 +1,5 @@
 -- How the code writes block 0: its stretches as columns of numbers, one entry for each, and the text that one turn puts there.
-use mathlib.Core.Bool.{Bool, cond}
+use mathlib.Core.Bool.{cond}
 use mathlib.Core.List.{List, [], _∷_, map}
 use Prim.Native.Nat.{ℕ}
 use borrow.Rule.Slice.PartMut.{putMid}
@@ -78,10 +78,6 @@ unfoldable pub numbersBy : Header → ℤ → ℤ → ℕ → List ℤ
 numbersBy h least greatest columns = map numberIn (piecesBy h least greatest columns)
 
 -- ---- one turn
-
--- a text where it fits, and else the field as it was
-abbrev pub ifFits : Bool → List ℕ → List ℕ → List ℕ
-ifFits fits text field = cond fits text field
 
 unfoldable pub textBy : ℕ → ℤ → List ℕ → List ℕ → List ℕ
 textBy how value kept field =

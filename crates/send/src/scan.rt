@@ -5,8 +5,8 @@ ghost use Prim.Native.Nat.{_+_, _*_, _≤_, _<_};
 ghost use lib.ListN.{length};
 ghost use Rattle.load.specs.Posts.{void, sameZ, blocksFor};
 ghost use Rattle.meaning.specs.Rules.{leastStated, greatestStated};
-ghost use Rattle.written.specs.Cells.{canSend, sendable, postOf, voidsBefore, upToLast, firstRow, profileCells};
-ghost use Rattle.send.specs.ScanSteps.{columnAt, startAt, Finds, withCell, Sizes};
+ghost use Rattle.written.specs.Cells.{canSend, sendable, postOf, voidsBefore, upToLast, columnAt, firstRow, profileCells, startAt};
+ghost use Rattle.send.specs.ScanSteps.{Finds, withCell, Sizes};
 
 // Where a column's profile begins, and how many posts it has.
 pub(crate) struct Column {

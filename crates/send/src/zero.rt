@@ -6,7 +6,6 @@ ghost use mathlib.Core.Path.{_≡_};
 ghost use Prim.Native.Nat.{_≤_, _<_, _^_};
 ghost use lib.IntN.{pos};
 ghost use lib.ListN.{length};
-ghost use borrow.Rule.Slice.PartMut.{putMid};
 ghost use Rattle.session.specs.Session.{headerObeys};
 ghost use Rattle.spell.specs.Spell.{realFits};
 ghost use Rattle.send.specs.ZeroSteps.{zeroBy, stretchAt, textBy, pieceBy, numbersBy};

@@ -39,9 +39,9 @@ module _ (template : List ℕ) (h : Header) (grid : List ℤ) where
   unfolding blockSent
   profile-is c q lt less =
       let number = startSent h grid c + q in
-      let n : eqb number 0 ≡ false = ne-eqb number 0 (λ z. omega (arith, z, start-from h grid c)) in
+      let n : eqb number 0 ≡ false = ne-eqb number 0 (λ z. omega (arith, z, start-from (rowsOf h) grid c)) in
       let w : columnWith h grid (columnsOf h) number ≡ c
-      = column-with h grid (columnsOf h) c number lt (omega arith) (omega (arith, less, start-next h grid c)) in
+      = column-with (rowsOf h) grid (columnsOf h) c number lt (omega arith) (omega (arith, less, start-next (rowsOf h) grid c)) in
       let d : number - startSent h grid c ≡ q = omega arith in
       (λ i. cond (n i) (blockZero template h grid) (profileBlock h grid (w i) (number - startSent h grid (w i))))
       ∙ ap (profileBlock h grid c) d
@@ -103,6 +103,6 @@ module _ (h : Header) (grid : List ℤ) (obeys : headerObeys h ≡ true) (room :
         ∙ zero-length template h grid long obeys sheet-least sheet-greatest)
         (λ z.
         let c = columnWith h grid (columnsOf h) b in
-        let inside : c < columnsOf h = with-below h grid (columnsOf h) b (omega (arith, eqb-false b 0 z)) lt in
+        let inside : c < columnsOf h = with-below (rowsOf h) grid (columnsOf h) b (omega (arith, eqb-false b 0 z)) lt in
         (λ i. length (cond (z i) (blockZero template h grid) (profileBlock h grid c (b - startSent h grid c))))
         ∙ column-long c inside (b - startSent h grid c))

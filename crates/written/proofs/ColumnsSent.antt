@@ -1,13 +1,12 @@
 -- A column and its profile: the profile's cells are the column's from its first row on, all else is void. Inductions on the column.
 use mathlib.Core.Bool.{true, false, cond}
 use mathlib.Core.List.{List, [], _∷_}
-use mathlib.Core.Logic.{_↔_}
 use mathlib.Core.Path.{_≡_, refl, sym, _∙_, ap}
 use Prim.Native.Nat.{ℕ, zero, suc, _+_, _-_, _≤_, _<_}
 use native.Mathlib.Omega.{arith}
 use borrow.Author.Tests.{leb-true, leb-false, le-leb}
 use lib.Dec.{leb}
-use lib.IntN.{ℤ, pos, _*ℤ_}
+use lib.IntN.{ℤ}
 use lib.ListN.{length, drop, getD, length-drop}
 use lib.Seq.{getD-drop}
 use Rattle.laws.specs.Sign.{_and_}
@@ -15,7 +14,7 @@ use Rattle.laws.proofs.Tests.{clash, and-first, and-second}
 use Rattle.number.proofs.GrammarParts.{by-test}
 use Rattle.load.specs.Posts.{void, sameZ}
 use Rattle.load.proofs.Heights.{sameZ-is}
-use Rattle.meaning.specs.Rules.{filledOnly, leastOf, greatestOf, leastStated, greatestStated}
+use Rattle.meaning.specs.Rules.{filledOnly}
 use Rattle.written.specs.Cells.{canSend, sendable, voidsBefore, isNone, upToLast, firstRow, profileCells}
 
 -- ---- up to the last filled cell, and the voids before the first
@@ -173,12 +172,6 @@ module _ (column : List ℤ) where
       ap filledOnly (void-profile column e) ∙ ap filledOnly (sym (none-is (upToLast column) e)) ∙ filled-last column)
       (λ e. ap filledOnly (filled-profile column e) ∙ filled-behind column ∙ filled-last column)
 
-  pub least-sent : leastStated (profileCells column) ≡ leastStated column
-  least-sent = ap (λ (l : List ℤ). leastOf l *ℤ pos 10000000) filled-sent
-
-  pub greatest-sent : greatestStated (profileCells column) ≡ greatestStated column
-  greatest-sent = ap (λ (l : List ℤ). greatestOf l *ℤ pos 10000000) filled-sent
-
 -- ---- what can be sent
 
 pub void-sends : (z : ℕ) → canSend z void ≡ true
@@ -211,10 +204,6 @@ module _ (z : ℕ) where
       let first : canSend z c ≡ true = h 0 (omega arith) in
       let rest = all-send cs (λ i k. h (suc i) (omega (arith, k))) in
       rw first (ap suc rest)
-
-  -- all cells can be sent exactly where each can
-  pub sendable-is : (cells : List ℤ) → (sendable z cells ≡ length cells) ↔ EachSends z cells
-  sendable-is cells = (each-sends cells, all-send cells)
 
   pub sendable-sent : (column : List ℤ) → 1 ≤ length column → sendable z column ≡ length column
       → sendable z (profileCells column) ≡ length (profileCells column)

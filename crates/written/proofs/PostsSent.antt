@@ -99,25 +99,41 @@ abbrev pub cellsOfBlock : List ℤ → ℕ → List ℤ
 cellsOfBlock cells zero = take 146 cells
 cellsOfBlock cells (suc k) = take 170 (drop (146 + 170 * k) cells)
 
-pub block-sends : (z : ℕ) (cells : List ℤ) (k : ℕ) → AllSent z cells → AllSent z (cellsOfBlock cells k)
-block-sends z cells zero all = part-sends z cells 0 146 all
-block-sends z cells (suc k) all = part-sends z cells (146 + 170 * k) 170 all
+-- and what stands before them
+abbrev pub beforePosts : Header → List ℤ → ℕ → ℕ → List ℕ
+beforePosts h grid c zero = headText h grid c
+beforePosts h grid c (suc k) = []
 
--- a text, posts behind it, and blanks to the block's end
-pub filled-length : (z : ℕ) (before : List ℕ) (cells : List ℤ) → AllSent z cells → length before + 6 * length cells ≤ 1024
-    → length (filledUp (before ++ postsText z cells)) ≡ 1024
-filled-length z before cells all room =
-    let text = before ++ postsText z cells in
-    length-append text (replicate (1024 - length text) 32)
-    ∙ omega (arith, length-append before (postsText z cells), posts-length z cells all, room, length-replicate {A = ℕ} (1024 - length text) 32)
+module _ (h : Header) (grid : List ℤ) (c : ℕ) where
+  abbrev cells : List ℤ
+  cells = cellsSent h grid c
 
-pub profile-length : (h : Header) (grid : List ℤ) (c : ℕ) → AllSent (zOf h) (cellsSent h grid c) → length (headText h grid c) ≡ 144
-    → (k : ℕ) → length (profileBlock h grid c k) ≡ 1024
-unfolding profileBlock
-profile-length h grid c all long zero =
-    let cells = cellsSent h grid c in
-    filled-length (zOf h) (headText h grid c) (take 146 cells) (block-sends (zOf h) cells 0 all) (omega (arith, long, length-take 146 cells))
-profile-length h grid c all long (suc k) =
-    let cells = cellsSent h grid c in
-    filled-length (zOf h) [] (cellsOfBlock cells (suc k)) (block-sends (zOf h) cells (suc k) all)
-    (omega (arith, length-take 170 (drop (146 + 170 * k) cells)))
+  abbrev text : ℕ → List ℕ
+  text k = beforePosts h grid c k ++ postsText (zOf h) (cellsOfBlock cells k)
+
+  -- then blanks to the block's end
+  pub block-is : (k : ℕ) → profileBlock h grid c k ≡ filledUp (text k)
+  unfolding profileBlock
+  block-is zero = refl
+  block-is (suc k) = refl
+
+  module _ (all : AllSent (zOf h) cells) (long : length (headText h grid c) ≡ 144) where
+    pub block-sends : (k : ℕ) → AllSent (zOf h) (cellsOfBlock cells k)
+    block-sends zero = part-sends (zOf h) cells 0 146 all
+    block-sends (suc k) = part-sends (zOf h) cells (146 + 170 * k) 170 all
+
+    pub block-room : (k : ℕ) → length (beforePosts h grid c k) + 6 * length (cellsOfBlock cells k) ≤ 1024
+    block-room zero = omega (arith, long, length-take 146 cells)
+    block-room (suc k) = omega (arith, length-take 170 (drop (146 + 170 * k) cells))
+
+    pub profile-length : (k : ℕ) → length (profileBlock h grid c k) ≡ 1024
+    profile-length k =
+        ap length (block-is k)
+        ∙ length-append (text k) (replicate (1024 - length (text k)) 32)
+        ∙ omega (
+          arith,
+          length-append (beforePosts h grid c k) (postsText (zOf h) (cellsOfBlock cells k)),
+          posts-length (zOf h) (cellsOfBlock cells k) (block-sends k),
+          block-room k,
+          length-replicate {A = ℕ} (1024 - length (text k)) 32,
+        )

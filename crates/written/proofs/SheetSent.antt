@@ -5,7 +5,7 @@ use mathlib.Core.Path.{_≡_, refl, sym, _∙_, ap, ap₂}
 use Prim.Native.Nat.{ℕ, zero, suc, _+_, _*_, _-_, _≤_, _<_}
 use native.Mathlib.Nat.{add-zero, suc-mul, mul-le-mul-right}
 use native.Mathlib.Omega.{arith}
-use borrow.Author.Tests.{eqb-true, eqb-false, leb-true, leb-false, le-leb, lt-leb, ltb-true, ltb-false}
+use borrow.Author.Tests.{eqb-true, eqb-false, leb-true, le-leb, lt-leb, ltb-true, ltb-false}
 use lib.Arith.{digits-lt}
 use lib.Dec.{leb, ltb, eqb}
 use lib.IntN.{ℤ, pos, _*ℤ_}
@@ -18,7 +18,7 @@ use Rattle.load.specs.Posts.{void, sameZ, blocksFor}
 use Rattle.load.specs.Deliver.{cellsOf}
 use Rattle.meaning.specs.Text.{from, below, joined}
 use Rattle.meaning.specs.Rules.{filledOnly, leastOf, greatestOf, leastStated, greatestStated}
-use Rattle.written.specs.Cells.{canSend, sendable, columnCells, cellsSent, startSent, columnWith}
+use Rattle.written.specs.Cells.{canSend, sendable, columnAt, columnCells, profileCells, cellsSent, startAt, columnFor}
 use Rattle.written.specs.Blocks.{sheetCells}
 use Rattle.written.proofs.ColumnsSent.{filled-sent, each-sends, all-send}
 
@@ -109,104 +109,88 @@ module _ (h : Header) (grid : List ℤ) where
   pub greatest-sheet : greatestStated (joined (map (cellsSent h grid) (below (columnsOf h)))) ≡ greatestStated (sheetCells h grid)
   greatest-sheet = ap (λ (l : List ℤ). greatestOf l *ℤ pos 10000000) filled-sheet
 
-  -- ---- where the columns' profiles start
+-- ---- where the columns' profiles start
 
-  pub first-start : startSent h grid 0 ≡ 1
-  unfolding startSent
+module _ (rows : ℕ) (grid : List ℤ) where
+  pub first-start : startAt rows grid 0 ≡ 1
+  unfolding startAt
   first-start = refl
 
-  pub start-next : (c : ℕ) → startSent h grid (suc c) ≡ startSent h grid c + blocksFor (length (cellsSent h grid c))
-  unfolding startSent
+  pub start-next : (c : ℕ) → startAt rows grid (suc c) ≡ startAt rows grid c + blocksFor (length (profileCells (columnAt rows grid c)))
+  unfolding startAt
   start-next c = refl
 
-  pub start-before : (c : ℕ) → startSent h grid c < startSent h grid (suc c)
+  pub start-before : (c : ℕ) → startAt rows grid c < startAt rows grid (suc c)
   start-before c = omega (arith, start-next c)
 
-  start-rises : (c d : ℕ) → startSent h grid c + d ≤ startSent h grid (c + d)
+  start-rises : (c d : ℕ) → startAt rows grid c + d ≤ startAt rows grid (c + d)
   start-rises c zero = rw (add-zero c) (omega arith)
   start-rises c (suc d) =
       let e : c + suc d ≡ suc (c + d) = omega arith in
       rw e (omega (arith, start-rises c d, start-before (c + d)))
 
-  pub start-order : (i j : ℕ) → i ≤ j → startSent h grid i + (j - i) ≤ startSent h grid j
+  pub start-order : (i j : ℕ) → i ≤ j → startAt rows grid i + (j - i) ≤ startAt rows grid j
   start-order i j k =
       let e : i + (j - i) ≡ j = omega (arith, k) in
       let r = start-rises i (j - i) in rw e at r
 
-  pub start-from : (c : ℕ) → 1 + c ≤ startSent h grid c
+  pub start-from : (c : ℕ) → 1 + c ≤ startAt rows grid c
   start-from c = omega (arith, start-order 0 c (omega arith), first-start)
 
   -- ---- the column that a block belongs to
 
-  with-here : (n number : ℕ) → leb (startSent h grid (suc n)) number ≡ true → columnWith h grid (suc n) number ≡ suc n
-  unfolding columnWith
+  with-here : (n number : ℕ) → leb (startAt rows grid (suc n)) number ≡ true → columnFor rows grid (suc n) number ≡ suc n
+  unfolding columnFor
   with-here n number e = rw e
 
-  with-before : (n number : ℕ) → leb (startSent h grid (suc n)) number ≡ false
-      → columnWith h grid (suc n) number ≡ columnWith h grid n number
-  unfolding columnWith
+  with-before : (n number : ℕ) → leb (startAt rows grid (suc n)) number ≡ false
+      → columnFor rows grid (suc n) number ≡ columnFor rows grid n number
+  unfolding columnFor
   with-before n number e = rw e
 
-  with-none : (number : ℕ) → columnWith h grid 0 number ≡ 0
-  unfolding columnWith
+  with-none : (number : ℕ) → columnFor rows grid 0 number ≡ 0
+  unfolding columnFor
   with-none number = refl
 
-  column-among : (n c number : ℕ) → c ≤ n → startSent h grid c ≤ number → number < startSent h grid (suc c)
-      → columnWith h grid n number ≡ c
+  column-among : (n c number : ℕ) → c ≤ n → startAt rows grid c ≤ number → number < startAt rows grid (suc c)
+      → columnFor rows grid n number ≡ c
   column-among zero c number le from to = with-none number ∙ (omega (arith, le))
   column-among (suc n) c number le from to =
       by-test (eqb c (suc n))
       (λ e.
       let same = eqb-true c (suc n) e in
-      let reached : startSent h grid (suc n) ≤ number = rw same at from in
-      with-here n number (le-leb (startSent h grid (suc n)) number reached) ∙ sym same)
+      let reached : startAt rows grid (suc n) ≤ number = rw same at from in
+      with-here n number (le-leb (startAt rows grid (suc n)) number reached) ∙ sym same)
       (λ e.
       let less : c ≤ n = omega (arith, le, eqb-false c (suc n) e) in
       let past = start-order (suc c) (suc n) (omega (arith, less)) in
-      with-before n number (lt-leb (startSent h grid (suc n)) number (omega (arith, to, past)))
+      with-before n number (lt-leb (startAt rows grid (suc n)) number (omega (arith, to, past)))
       ∙ column-among n c number less from to)
 
   -- a block from one column's start to the next's belongs to that column
-  pub column-with : (n c number : ℕ) → c < n → startSent h grid c ≤ number → number < startSent h grid (suc c)
-      → columnWith h grid n number ≡ c
+  pub column-with : (n c number : ℕ) → c < n → startAt rows grid c ≤ number → number < startAt rows grid (suc c)
+      → columnFor rows grid n number ≡ c
   column-with n c number lt from to = column-among n c number (omega (arith, lt)) from to
 
-  with-most : (n number : ℕ) → columnWith h grid n number ≤ n
+  with-most : (n number : ℕ) → columnFor rows grid n number ≤ n
   with-most zero number = omega (arith, with-none number)
   with-most (suc n) number =
-      by-test (leb (startSent h grid (suc n)) number) (λ e. omega (arith, with-here n number e))
+      by-test (leb (startAt rows grid (suc n)) number) (λ e. omega (arith, with-here n number e))
       (λ e. omega (arith, with-before n number e, with-most n number))
 
-  pub with-start : (n number : ℕ) → 1 ≤ number → startSent h grid (columnWith h grid n number) ≤ number
+  pub with-start : (n number : ℕ) → 1 ≤ number → startAt rows grid (columnFor rows grid n number) ≤ number
   with-start zero number some = rw (with-none number) (omega (arith, some, first-start))
   with-start (suc n) number some =
-      by-test (leb (startSent h grid (suc n)) number)
-      (λ e. rw (with-here n number e) (leb-true (startSent h grid (suc n)) number e))
+      by-test (leb (startAt rows grid (suc n)) number)
+      (λ e. rw (with-here n number e) (leb-true (startAt rows grid (suc n)) number e))
       (λ e. rw (with-before n number e) (with-start n number some))
 
-  with-next : (n number : ℕ) → columnWith h grid n number < n → number < startSent h grid (suc (columnWith h grid n number))
-  with-next zero number k = absurd (omega (arith, k))
-  with-next (suc n) number k =
-      by-test (leb (startSent h grid (suc n)) number) (λ e. absurd (omega (arith, k, with-here n number e)))
-      (λ e.
-      let past = leb-false (startSent h grid (suc n)) number e in
-      rw (with-before n number e)
-      (by-test (ltb (columnWith h grid n number) n)
-      (λ t. with-next n number (ltb-true (columnWith h grid n number) n t))
+  -- a block behind block 0 and before the end belongs to one of the columns
+  pub with-below : (n number : ℕ) → 1 ≤ number → number < startAt rows grid n → columnFor rows grid n number < n
+  with-below n number some within =
+      by-test (ltb (columnFor rows grid n number) n) (ltb-true (columnFor rows grid n number) n)
       (λ t.
-      let all : columnWith h grid n number ≡ n = omega (arith, ltb-false (columnWith h grid n number) n t, with-most n number) in
-      rw all past)))
-
-  -- a block behind block 0 and before the end: its column, and that the block lies in that column's profile
-  module _ (n number : ℕ) (some : 1 ≤ number) (within : number < startSent h grid n) where
-    pub with-below : columnWith h grid n number < n
-    with-below =
-        by-test (ltb (columnWith h grid n number) n) (ltb-true (columnWith h grid n number) n)
-        (λ t.
-        let all : columnWith h grid n number ≡ n = omega (arith, ltb-false (columnWith h grid n number) n t, with-most n number) in
-        let reached = with-start n number some in
-        let past : startSent h grid n ≤ number = rw all at reached in
-        absurd (omega (arith, past, within)))
-
-    pub with-end : number < startSent h grid (suc (columnWith h grid n number))
-    with-end = with-next n number with-below
+      let all : columnFor rows grid n number ≡ n = omega (arith, ltb-false (columnFor rows grid n number) n t, with-most n number) in
+      let reached = with-start n number some in
+      let past : startAt rows grid n ≤ number = rw all at reached in
+      absurd (omega (arith, past, within)))

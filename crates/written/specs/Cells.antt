@@ -33,8 +33,11 @@ postOf z cell = cond (sameZ cell void) voidPost (multipleOf cell z)
 
 -- ---- columns
 
+abbrev pub columnAt : ℕ → List ℤ → ℕ → List ℤ
+columnAt rows grid c = take rows (drop (c * rows) grid)
+
 abbrev pub columnCells : Header → List ℤ → ℕ → List ℤ
-columnCells h grid c = take (rowsOf h) (drop (c * rowsOf h) grid)
+columnCells h grid c = columnAt (rowsOf h) grid c
 
 -- how many voids stand before the first filled cell
 unfoldable pub voidsBefore : List ℤ → ℕ
@@ -64,14 +67,20 @@ abbrev pub cellsSent : Header → List ℤ → ℕ → List ℤ
 cellsSent h grid c = profileCells (columnCells h grid c)
 
 -- the first block of column c's profile, and with c the columns, how many blocks there are
-unfoldable pub startSent : Header → List ℤ → ℕ → ℕ
-startSent h grid zero = 1
-startSent h grid (suc c) = startSent h grid c + blocksFor (length (cellsSent h grid c))
+unfoldable pub startAt : ℕ → List ℤ → ℕ → ℕ
+startAt rows grid zero = 1
+startAt rows grid (suc c) = startAt rows grid c + blocksFor (length (profileCells (columnAt rows grid c)))
+
+abbrev pub startSent : Header → List ℤ → ℕ → ℕ
+startSent h grid c = startAt (rowsOf h) grid c
 
 abbrev pub blockCount : Header → List ℤ → ℕ
 blockCount h grid = startSent h grid (columnsOf h)
 
 -- the column whose profile has a block: of the first n, the last that starts not behind it
-unfoldable pub columnWith : Header → List ℤ → ℕ → ℕ → ℕ
-columnWith h grid zero number = 0
-columnWith h grid (suc c) number = cond (leb (startSent h grid (suc c)) number) (suc c) (columnWith h grid c number)
+unfoldable pub columnFor : ℕ → List ℤ → ℕ → ℕ → ℕ
+columnFor rows grid zero number = 0
+columnFor rows grid (suc c) number = cond (leb (startAt rows grid (suc c)) number) (suc c) (columnFor rows grid c number)
+
+abbrev pub columnWith : Header → List ℤ → ℕ → ℕ → ℕ
+columnWith h grid n number = columnFor (rowsOf h) grid n number

@@ -1,9 +1,8 @@
 -- Where the columns' blocks end.
 use mathlib.Core.Path.{_∙_, ap₂}
 use Prim.Native.Nat.{ℕ}
-use Rattle.sheet.specs.RecordA.{columnsOf}
-use Rattle.send.specs.ScanSteps.{startAt}
-use Rattle.send.proofs.ScanLaws.{start-sent, sizes}
+use Rattle.written.specs.Cells.{startAt}
+use Rattle.send.proofs.ScanLaws.{sizes}
 use Rattle.send.proofs.one_block.count_of.Statement.{statement}
 use Rattle.send.proofs.one_block.count_of.Tie as tie
 
@@ -23,7 +22,6 @@ returns c =
     let a = r .before .before .args in
     c .count-blocks .ensures
     ∙ ap₂ (λ (rows n : ℕ). startAt rows (a .grid .now) n) (r .rows-of .ensures) (r .before .columns-of .ensures)
-    ∙ start-sent (a .h) (a .grid .now) (columnsOf (a .h))
 
 pub count-of-spec : {M : Type 1} → statement M
 count-of-spec =

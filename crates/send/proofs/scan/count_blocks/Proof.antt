@@ -2,8 +2,9 @@
 use Prim.Native.Nat.{ℕ, _+_, _≤_, _-_}
 use mathlib.Core.Path.{_≡_, sym, _∙_, ap}
 use native.Mathlib.Omega.{arith}
-use Rattle.send.specs.ScanSteps.{startAt}
-use Rattle.send.proofs.ScanLaws.{start-first, start-more, column-room, posts-most, next-most}
+use Rattle.written.specs.Cells.{startAt}
+use Rattle.written.proofs.SheetSent.{first-start}
+use Rattle.send.proofs.ScanLaws.{start-more, column-room, posts-most, next-most}
 use Rattle.send.proofs.scan.count_blocks.Statement.{statement}
 use Rattle.send.proofs.scan.count_blocks.Tie as tie
 
@@ -14,7 +15,7 @@ abbrev μ-loop : tie.MeasureT-loop
 μ-loop columns rows grid next₀ c₀ next c = columns - c
 
 loop-holds : tie.Need-loop-holds Inv-loop μ-loop
-loop-holds c = (omega arith, sym (start-first (c .args .rows) (c .args .grid .now)))
+loop-holds c = (omega arith, sym (first-start (c .args .rows) (c .args .grid .now)))
 
 column-at-requires : tie.Need-column-at-requires Inv-loop μ-loop
 column-at-requires c κs = column-room (c .before .before .pre) (c .before .loop .c) (c .loop-test .taken)

@@ -2,8 +2,9 @@
 use Prim.Native.Nat.{ℕ, _+_, _≤_, _<_, _-_}
 use mathlib.Core.Path.{_≡_, sym, _∙_, ap, subst}
 use native.Mathlib.Omega.{arith}
-use Rattle.send.specs.ScanSteps.{startAt}
-use Rattle.send.proofs.ScanLaws.{start-first, start-more, column-room, posts-most, next-most, finds}
+use Rattle.written.specs.Cells.{startAt}
+use Rattle.written.proofs.SheetSent.{first-start}
+use Rattle.send.proofs.ScanLaws.{start-more, column-room, posts-most, next-most, finds}
 use Rattle.send.proofs.scan.find_column.Statement.{statement}
 use Rattle.send.proofs.scan.find_column.Tie as tie
 
@@ -14,7 +15,7 @@ abbrev μ-loop : tie.MeasureT-loop
 μ-loop columns rows grid number start₀ c₀ start c = columns - c
 
 loop-holds : tie.Need-loop-holds Inv-loop μ-loop
-loop-holds c = (omega arith, (sym (start-first (c .args .rows) (c .args .grid .now)), omega arith))
+loop-holds c = (omega arith, (sym (first-start (c .args .rows) (c .args .grid .now)), omega arith))
 
 column-at-requires : tie.Need-column-at-requires Inv-loop μ-loop
 column-at-requires c κs = column-room (c .before .before .pre .0) (c .before .loop .c) (c .loop-test .taken)

@@ -5,14 +5,14 @@ use lib.ListN.{length}
 use Prim.Native.Nat.{_≤_}
 use Rattle.written.specs.Blocks.{blockZero}
 use Rattle.written.proofs.SheetSent.{start-from}
-use Rattle.sheet.specs.RecordA.{columnsOf}
+use Rattle.sheet.specs.RecordA.{columnsOf, rowsOf}
 use Rattle.send.proofs.WholeText.{block-put, whole-put}
 use borrow.Author.Needs.{needs}
 use Rattle.send.proofs.whole_sheet.write_blocks.Statement.{statement}
 use Rattle.send.proofs.whole_sheet.write_blocks.Tie as tie
 
 room : (s : tie.Start) → 1024 ≤ length (s .args .out .now)
-room s = omega (arith, s .pre .room, start-from (s .args .h) (s .args .grid .now) (columnsOf (s .args .h)))
+room s = omega (arith, s .pre .room, start-from (rowsOf (s .args .h)) (s .args .grid .now) (columnsOf (s .args .h)))
 
 sub-write-block-zero : tie.Need-sub-write-block-zero
 sub-write-block-zero c = search needs

@@ -8,9 +8,8 @@ use lib.Seq.{length-take-le}
 use Rattle.load.specs.Posts.{blocksFor}
 use Rattle.spell.specs.Pieces.{Puts}
 use Rattle.spell.proofs.Pieces.{put-none}
-use Rattle.written.specs.Cells.{cellsSent, firstRow, profileCells, columnCells}
+use Rattle.written.specs.Cells.{columnAt, cellsSent, firstRow, profileCells, columnCells}
 use Rattle.written.specs.Blocks.{profileBlock}
-use Rattle.send.specs.ScanSteps.{columnAt}
 use Rattle.send.specs.WholeSteps.{blocksText}
 use Rattle.send.proofs.ProfileText.{named}
 use Rattle.send.proofs.ScanLaws.{sizes, column-room, posts-most}

@@ -5,7 +5,7 @@ use native.Mathlib.Omega.{arith}
 use lib.ListN.{length}
 use Rattle.spell.specs.Pieces.{Puts}
 use Rattle.spell.proofs.Pieces.{put-none}
-use Rattle.sheet.specs.RecordA.{columnsOf}
+use Rattle.sheet.specs.RecordA.{columnsOf, rowsOf}
 use Rattle.written.specs.Cells.{startSent}
 use Rattle.written.proofs.SheetSent.{first-start, start-next, start-order}
 use Rattle.send.specs.WholeSteps.{columnsText}
@@ -29,7 +29,7 @@ columns-of-requires c κs = c .before .pre .sheet .obeys
 loop-holds : tie.Need-loop-holds Inv-loop μ-loop
 loop-holds c =
     let s = c .before .before in
-    (omega arith, (omega (arith, first-start (s .args .h) (s .args .grid .now)), put-none _ _))
+    (omega arith, (omega (arith, first-start (rowsOf (s .args .h)) (s .args .grid .now)), put-none _ _))
 
 -- src/whole_sheet.rt:44:9
 write-column-requires : tie.Need-write-column-requires Inv-loop μ-loop
@@ -46,7 +46,7 @@ write-column-requires c κs =
       inside = inside;
       room =
           omega
-          (arith, l .loop .inv .1 .0, l .loop .inv .1 .1 .kept, s .pre .room, start-next h grid n, start-order h grid (suc n) (columnsOf h) inside);
+          (arith, l .loop .inv .1 .0, l .loop .inv .1 .1 .kept, s .pre .room, start-next (rowsOf h) grid n, start-order (rowsOf h) grid (suc n) (columnsOf h) inside);
     }
 
 -- src/whole_sheet.rt:45:9
