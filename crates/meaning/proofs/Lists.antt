@@ -22,6 +22,12 @@ from-append a (suc m) n =
     let f : a + suc m ≡ suc a + m = omega arith in
     rw (e, f) (ap (λ (l : List ℕ). a ∷ l) (from-append (suc a) m n))
 
+pub below-more : (k : ℕ) → below (suc k) ≡ below k ++ (k ∷ [])
+below-more k =
+    let e : suc k ≡ k + 1 = omega arith in
+    let z : 0 + k ≡ k = omega arith in
+    ap below e ∙ from-append 0 k 1 ∙ ap (λ (i : ℕ). below k ++ (i ∷ [])) z
+
 pub from-at : (a n i d : ℕ) → i < n → getD (from a n) i d ≡ a + i
 from-at a (suc n) zero d h = sym (add-zero a)
 from-at a (suc n) (suc i) d h = from-at (suc a) n i d (omega (arith, h)) ∙ (omega arith)
@@ -43,6 +49,13 @@ module _ {A : Type 0} where
   pub joined-append : (xs ys : List (List A)) → joined (xs ++ ys) ≡ joined xs ++ joined ys
   joined-append [] ys = refl
   joined-append (x ∷ xs) ys = ap (λ (l : List A). x ++ l) (joined-append xs ys) ∙ sym (append-brackets x (joined xs) (joined ys))
+
+  pub joined-more : (f : ℕ → List A) (k : ℕ) → joined (map f (below (suc k))) ≡ joined (map f (below k)) ++ f k
+  joined-more f k =
+      ap (λ (l : List ℕ). joined (map f l)) (below-more k)
+      ∙ ap joined (map-append f (below k) (k ∷ []))
+      ∙ joined-append (map f (below k)) (f k ∷ [])
+      ∙ ap (λ (l : List A). joined (map f (below k)) ++ l) (append-nil (f k))
 
   -- two functions that agree from a on, n times
   pub map-same : (f g : ℕ → A) (a n : ℕ) → ((i : ℕ) → a ≤ i → i < a + n → f i ≡ g i) → map f (from a n) ≡ map g (from a n)

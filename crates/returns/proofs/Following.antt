@@ -9,7 +9,7 @@ use borrow.Author.Tests.{ltb-true, ltb-false, le-leb, leb-true, leb-false, eq-eq
 use lib.Arith.{digits-div, digits-mod}
 use lib.Dec.{leb, ltb, eqb}
 use lib.IntN.{ℤ, pos}
-use lib.ListN.{length, take, drop, getD, length-map, length-append, List·getD-eq-default}
+use lib.ListN.{length, take, drop, getD, length-map, List·getD-eq-default}
 use lib.Seq.{take-add, take-all}
 use Rattle.number.proofs.GrammarParts.{by-test}
 use Rattle.sheet.specs.Lattice.{latticeOf, placeOf}
@@ -21,11 +21,12 @@ use Rattle.profile.specs.declared.record_b.Head.{Head}
 use Rattle.load.specs.Posts.{void, postsFault, postsOf, restFault, heights, sameZ, blocksFor}
 use Rattle.load.specs.Deliver.{zOf}
 use Rattle.load.proofs.Heights.{sameZ-is}
-use Rattle.meaning.specs.Text.{from, below, joined, blockAt, blocksIn, headerIn, profilesIn, startOf, headIn, roomIn, postsIn, heightIn, heightsIn, allHeights, columnPlaceIn, rowPlaceIn, columnIn, rowIn, numberOn, rowsIn, valueAt, cellIn, zIn}
+use Rattle.meaning.specs.Text.{below, joined, blockAt, blocksIn, headerIn, profilesIn, startOf, headIn, roomIn, postsIn, heightIn, heightsIn, allHeights, columnPlaceIn, rowPlaceIn, columnIn, rowIn, numberOn, rowsIn, valueAt, cellIn, zIn}
 use Rattle.meaning.specs.Rules.{Breach, inBlock, rule, when, firstBroken, firstBreach, leastStated, greatestStated, postsOfBlock, postsByte, blockRules, placeRules, columnKept, rowKept, closingRules, sheetRules, isWhole, endOf, blocksOfSheet, isComplete}
-use Rattle.meaning.proofs.Lists.{Kept, from-length, from-append, joined-empty, map-append, joined-append, append-nil, append-brackets, kept-both}
+use Rattle.meaning.proofs.Lists.{Kept, from-length, joined-empty, joined-more, append-nil, append-brackets, kept-both}
 use Rattle.meaning.proofs.Starts.{start-order, start-from, none-yet}
-use Rattle.meaning.proofs.Joined.{Extends, Here, columnBy, rowBy, join-extends, start-same, heights-whole, newHeights, heights-grow, all-grow}
+use Rattle.meaning.proofs.BlocksJoined as Blocks
+use Rattle.meaning.proofs.Joined.{Extends, Here, columnBy, rowBy, start-same, heights-whole, newHeights, heights-grow, all-grow}
 use Rattle.meaning.proofs.EachPost.{map-at, stands-for, value-void, value-of-post}
 use Rattle.meaning.proofs.RulesGrow.{closingDue, further-due, opening-due, first-due-kept}
 
@@ -82,46 +83,17 @@ module _ (at : ℕ → List ℕ) (cells : ℕ → List ℤ) (row : ℕ → ℕ) 
   abbrev pub textTo : ℕ → List ℕ
   textTo k = joined (map at (below k))
 
-  text-next : (k : ℕ) → textTo (suc k) ≡ textTo k ++ at k
-  text-next k =
-      let e : suc k ≡ k + 1 = omega arith in
-      ap textTo e
-      ∙ ap (λ (l : List ℕ). joined (map at l)) (from-append 0 k 1)
-      ∙ ap joined (map-append at (below k) (from (0 + k) 1))
-      ∙ joined-append (map at (below k)) (map at (from (0 + k) 1))
-      ∙ ap (λ (l : List ℕ). textTo k ++ l) (append-nil (at (0 + k)))
-      ∙ ap (λ (i : ℕ). textTo k ++ at i) (omega arith)
-
   pub text-length : (k : ℕ) → k ≤ start n → length (textTo k) ≡ 1024 * k
-  text-length zero le = refl
-  text-length (suc k) le =
-      ap length (text-next k) ∙ length-append (textTo k) (at k)
-      ∙ (omega (arith, text-length k (omega (arith, le)), w .long k le))
+  text-length = Blocks.text-length at (start n) (w .long)
 
-  pub joins : (k : ℕ) → k < start n → Extends (textTo k) (textTo (suc k)) (at k) k
-  joins k lt =
-      rw (text-next k) (join-extends (textTo k) (at k) k (text-length k (omega (arith, lt))) (w .long k lt))
+  joins : (k : ℕ) → k < start n → Extends (textTo k) (textTo (suc k)) (at k) k
+  joins = Blocks.joins at (start n) (w .long)
 
-  -- block b of the first k
   block-at : (k b : ℕ) → k ≤ start n → b < k → blockAt (textTo k) b ≡ at b
-  block-at (suc k) b le lt =
-      let x = joins k le in
-      by-test (eqb b k)
-      (λ e. let q = eqb-true b k e in ap (blockAt (textTo (suc k))) q ∙ x .next ∙ ap at (sym q))
-      (λ e. let ne = eqb-false b k e in x .same b (omega (arith, lt, ne)) ∙ block-at k b (omega (arith, le)) (omega (arith, lt, ne)))
+  block-at = Blocks.block-at at (start n) (w .long)
 
   pub header-at : (k : ℕ) → k ≤ start n → 1 ≤ k → headerIn (textTo k) ≡ h
   header-at k le some = ap headerOf (block-at k 0 le some) ∙ w .header-is
-
-  joined-more : (c : ℕ) → joined (map cells (below (suc c))) ≡ joined (map cells (below c)) ++ cells c
-  joined-more c =
-      let e : suc c ≡ c + 1 = omega arith in
-      ap (λ (a : ℕ). joined (map cells (below a))) e
-      ∙ ap (λ (l : List ℕ). joined (map cells l)) (from-append 0 c 1)
-      ∙ ap joined (map-append cells (below c) (from (0 + c) 1))
-      ∙ joined-append (map cells (below c)) (map cells (from (0 + c) 1))
-      ∙ ap (λ (l : List ℤ). joined (map cells (below c)) ++ l) (append-nil (cells (0 + c)))
-      ∙ ap (λ (i : ℕ). joined (map cells (below c)) ++ cells i) (omega arith)
 
   start-rises : (c : ℕ) → start c < start (suc c)
   start-rises c = omega arith
@@ -325,7 +297,7 @@ module _ (at : ℕ → List ℕ) (cells : ℕ → List ℤ) (row : ℕ → ℕ) 
     last-all : suc c ≡ n → startOf more (suc c) ≤ suc k → allHeights more ≡ joined (map cells (below n))
     last-all e le =
         more-all ∙ ap (λ (l : List ℤ). joined (map cells (below c)) ++ l) (all-cells le)
-        ∙ sym (joined-more c) ∙ ap (λ (a : ℕ). joined (map cells (below a))) e
+        ∙ sym (joined-more cells c) ∙ ap (λ (a : ℕ). joined (map cells (below a))) e
 
     sheet-kept : Kept (when (leb (endOf more) (blocksIn more)) (sheetRules more))
     sheet-kept =
@@ -400,7 +372,7 @@ module _ (at : ℕ → List ℕ) (cells : ℕ → List ℤ) (row : ℕ → ℕ) 
       closed-now = more-heights ∙ all-cells whole-now
 
       pub all-now : allHeights more ≡ joined (map cells (below (suc c)))
-      all-now = more-all ∙ ap (λ (l : List ℤ). joined (map cells (below c)) ++ l) (all-cells whole-now) ∙ sym (joined-more c)
+      all-now = more-all ∙ ap (λ (l : List ℤ). joined (map cells (below c)) ++ l) (all-cells whole-now) ∙ sym (joined-more cells c)
 
       pub starts-now : (j : ℕ) → j ≤ suc c → startOf more j ≡ start j
       starts-now j le =
@@ -487,7 +459,7 @@ module _ (at : ℕ → List ℕ) (cells : ℕ → List ℤ) (row : ℕ → ℕ) 
   prefix-blocks k le = omega (arith, text-length k le)
 
   pub prefix-next : (k : ℕ) → textTo (suc k) ≡ textTo k ++ at k
-  prefix-next = text-next
+  prefix-next = joined-more at
 
   -- ---- the whole sheet
 

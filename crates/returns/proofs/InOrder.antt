@@ -16,11 +16,11 @@ use Rattle.load.specs.Posts.{void}
 use Rattle.load.specs.Deliver.{cellsOf, complete}
 use Rattle.load.specs.declared.Answer.{Answer}
 use Rattle.load.specs.declared.Answer.the-variants.{Taken}
-use Rattle.meaning.specs.Text.{from, below, blocksIn, cellsIn}
+use Rattle.meaning.specs.Text.{below, blocksIn, cellsIn}
 use Rattle.meaning.specs.Rules.{firstBreach}
 use Rattle.meaning.specs.Means.{begunSession, sessionOf, gridOf}
 use Rattle.meaning.specs.Deliveries.{Reader, Keeps, Delivery, Desk, Due, atFirst, answered, after, afterAll, bytesIf, takenText}
-use Rattle.meaning.proofs.Lists.{from-append, map-append, append-nil, append-brackets}
+use Rattle.meaning.proofs.Lists.{below-more, map-append, append-nil, append-brackets}
 use Rattle.meaning.proofs.Joined.{join-extends}
 use Rattle.meaning.proofs.EachPost.{grid-cell}
 use Rattle.meaning.proofs.LaterVerdict.{complete-is}
@@ -44,13 +44,7 @@ abbrev pub inOrder : (ℕ → List ℕ) → ℕ → List Delivery
 inOrder at k = map (delivery at) (below k)
 
 in-order-more : (at : ℕ → List ℕ) (k : ℕ) → inOrder at (suc k) ≡ inOrder at k ++ (delivery at k ∷ [])
-in-order-more at k =
-    let e : suc k ≡ k + 1 = omega arith in
-    let z : 0 + k ≡ k = omega arith in
-    ap (inOrder at) e
-    ∙ ap (map (delivery at)) (from-append 0 k 1)
-    ∙ map-append (delivery at) (below k) (from (0 + k) 1)
-    ∙ ap (λ (i : ℕ). inOrder at k ++ (delivery at i ∷ [])) z
+in-order-more at k = ap (map (delivery at)) (below-more k) ∙ map-append (delivery at) (below k) (k ∷ [])
 
 module _ (at : ℕ → List ℕ) (cells : ℕ → List ℤ) (row : ℕ → ℕ) (h : Header) (w : Follows at cells row h)
     (r : Reader) (keeps : Keeps r) (lent : List ℤ) (room : cellsOf h ≤ length lent) where

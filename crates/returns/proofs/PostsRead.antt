@@ -37,7 +37,7 @@ at-offset first width before piece after e l =
 -- ---- one cell and its post
 
 module _ (z : ℕ) (cell : ℤ) (some : 1 ≤ z) (can : canSend z cell ≡ true) where
-  post-height : height z (pos 0) (postOf z cell) ≡ cell
+  pub post-height : height z (pos 0) (postOf z cell) ≡ cell
   unfolding postOf
   post-height =
       by-test (sameZ cell void) (λ e. rw e (sym (sameZ-is cell void .0 e)))

@@ -58,7 +58,8 @@ module _ (template : List ℕ) (long : length template ≡ 1024) where
       ∙ ap (take (pieceWidth (pieceOf ps i))) (drop-append-add (pieceText template p) (textOf ps) (bytesBefore ps i))
       ∙ piece-begins ps (and-second (pieceFits p) (all pieceFits ps) t) i (le-of-suc-le-suc h)
 
-  -- the text of a piece reads as what was put there
+-- the text of a piece reads as what was put there
+module _ (template : List ℕ) where
   abbrev ReadsBack : Piece → List ℕ → Type 0
   ReadsBack (keeps first width) text = text ≡ stretch first width template
   ReadsBack (whole n) text = integer text ≡ read (pos n)
@@ -131,10 +132,10 @@ sheet-fine block h e = go (eqb (faultOf block .kind) 0) refl (eqb (length block)
 ranged-read : (l : Limits) (v : ℕ) (r : Reading) → r ≡ read (pos v) → inRange l v ≡ true → ranged l r .kind ≡ 0
 ranged-read l v r e t = rw (e, t)
 
--- what lies between them is in them
-in-limits : (l : Limits) (v : ℕ) → Ranged (l .least) (l .greatest) (l .step) v → inRange l v ≡ true
-in-limits l v r =
-    and-both (le-leb (l .least) v (r .least)) (and-both (le-leb v (l .greatest) (r .greatest)) (eq-eqb (v % l .step) 0 (r .step)))
+limits-read : (l : Limits) (v : ℕ) (r : Reading) → r ≡ read (pos v) → Ranged (l .least) (l .greatest) (l .step) v → ranged l r .kind ≡ 0
+limits-read l v r e b =
+    ranged-read l v r e
+    (and-both (le-leb (l .least) v (b .least)) (and-both (le-leb v (l .greatest) (b .greatest)) (eq-eqb (v % l .step) 0 (b .step))))
 
 -- the z spacing's are the ninth that a header keeps
 height-limits : (h : Header) → headerObeys h ≡ true → inRange (heightLimits (h .vertical)) (h .zstep) ≡ true
@@ -176,11 +177,11 @@ module _ (template : List ℕ) (h : Header) (grid : List ℤ) (is : recordA temp
   fit = all-fit h (leastStated (sheetCells h grid)) (greatestStated (sheetCells h grid)) (columnsOf h) obeys fl fg (heading .columns .1)
 
   -- each piece at its place, read back: piece i of the table
-  back : (i : ℕ) → i < 27 → ReadsBack template (template-length template h is) (pieceOf ps i) (take (pieceWidth (pieceOf ps i)) (drop (bytesBefore ps i) sent))
+  back : (i : ℕ) → i < 27 → ReadsBack template (pieceOf ps i) (take (pieceWidth (pieceOf ps i)) (drop (bytesBefore ps i) sent))
   unfolding blockZero piecesBy
   back i l =
       let long = template-length template h is in
-      reads-back template long (pieceOf ps i) (fit-at ps fit i) _ (piece-begins template long ps fit i l)
+      reads-back template (pieceOf ps i) (fit-at ps fit i) _ (piece-begins template long ps fit i l)
 
   long : length sent ≡ 1024
   long = zero-length template h grid (template-length template h is) obeys fl fg
@@ -213,10 +214,6 @@ module _ (template : List ℕ) (h : Header) (grid : List ℤ) (is : recordA temp
       reads (ap (λ (f : List ℕ). judge form 0 0 f .kind) same ∙ z)
       (forms-read n (first + 24) rs (omega (arith, a)) (omega (arith, b)) t s)
 
-  columns-in : inRange (limits 1 2048 1 7) (columnsOf h) ≡ true
-  columns-in =
-      in-limits (limits 1 2048 1 7) (columnsOf h) (record { least = heading .columns .0; greatest = heading .columns .1; step = omega arith })
-
   abbrev kindOf : Reading → ℕ
   kindOf r = r .kind
 
@@ -227,9 +224,9 @@ module _ (template : List ℕ) (h : Header) (grid : List ℤ) (is : recordA temp
   unfolding fields piecesBy
   rows-read =
       reads (ap (λ (f : List ℕ). judge words 0 0 f .kind) (back 0 (omega arith)) ∙ template-row 0 (omega arith))
-      (reads (ranged-read (limits 1 3 1 9) (h .level) _ (back 1 (omega arith)) (in-limits (limits 1 3 1 9) (h .level) (heading .level)))
+      (reads (limits-read (limits 1 3 1 9) (h .level) _ (back 1 (omega arith)) (heading .level))
       (reads (ranged-read (limits 1 1 1 9) 1 _ (back 2 (omega arith)) refl)
-      (reads (ranged-read (limits 0 2 1 9) (h .system) _ (back 3 (omega arith)) (in-limits (limits 0 2 1 9) (h .system) (record { least = omega arith; greatest = heading .system; step = omega arith })))
+      (reads (limits-read (limits 0 2 1 9) (h .system) _ (back 3 (omega arith)) (record { least = omega arith; greatest = heading .system; step = omega arith }))
       (reads
       (ap (λ (s : ℕ). ranged (zoneLimits s) (integer (stretch 163 6 sent)) .kind) system-is
       ∙ ranged-read (zoneLimits (h .system)) (h .zone) _ (back 4 (omega arith)) (heading .zone))
@@ -237,7 +234,7 @@ module _ (template : List ℕ) (h : Header) (grid : List ℤ) (is : recordA temp
       (reads
       (ap (λ (s : ℕ). ranged (groundLimits s) (integer (stretch 529 6 sent)) .kind) system-is
       ∙ ranged-read (groundLimits (h .system)) (h .ground) _ (back 6 (omega arith)) (heading .ground))
-      (reads (ranged-read (limits 1 2 1 9) (h .vertical) _ (back 7 (omega arith)) (in-limits (limits 1 2 1 9) (h .vertical) (heading .vertical)))
+      (reads (limits-read (limits 1 2 1 9) (h .vertical) _ (back 7 (omega arith)) (heading .vertical))
       (reads (ranged-read (limits 4 4 1 9) 4 _ (back 8 (omega arith)) refl)
       (reads (ap kindOf (back 9 (omega arith)))
       (reads (ap kindOf (back 10 (omega arith)))
@@ -251,13 +248,13 @@ module _ (template : List ℕ) (h : Header) (grid : List ℤ) (is : recordA temp
       (reads (ap kindOf (back 18 (omega arith)))
       (reads (ranged-read (limits 0 0 1 9) 0 _ (back 19 (omega arith)) refl)
       (reads (ranged-read (limits 0 1 1 9) 0 _ (back 20 (omega arith)) refl)
-      (reads (ranged-read steps (h .xstep) _ (back 21 (omega arith)) (in-limits steps (h .xstep) (heading .xstep)))
-      (reads (ranged-read steps (h .ystep) _ (back 22 (omega arith)) (in-limits steps (h .ystep) (heading .ystep)))
+      (reads (limits-read steps (h .xstep) _ (back 21 (omega arith)) (heading .xstep))
+      (reads (limits-read steps (h .ystep) _ (back 22 (omega arith)) (heading .ystep))
       (reads
       (ap (λ (v : ℕ). ranged (heightLimits v) (real (stretch 841 12 sent)) .kind) vertical-is
       ∙ ranged-read (heightLimits (h .vertical)) (h .zstep) _ (back 23 (omega arith)) (height-limits h obeys))
       (reads (ranged-read (limits 1 1 1 9) 1 _ (back 24 (omega arith)) refl)
-      (reads (ranged-read (limits 1 2048 1 7) (columnsOf h) _ (back 25 (omega arith)) columns-in)
+      (reads (limits-read (limits 1 2048 1 7) (columnsOf h) _ (back 25 (omega arith)) (record { least = heading .columns .0; greatest = heading .columns .1; step = omega arith }))
       (reads (ap (λ (f : List ℕ). judge words 0 0 f .kind) (back 26 (omega arith)) ∙ template-row 40 (omega arith))
       done))))))))))))))))))))))))))
 

@@ -11,7 +11,7 @@ use Rattle.sheet.specs.RecordA.{columnsOf, rowsOf}
 use Rattle.sheet.specs.declared.record_a.Header.{Header}
 use Rattle.load.specs.Posts.{blocksFor}
 use Rattle.meaning.specs.Text.{from, below, joined}
-use Rattle.meaning.proofs.Lists.{from-append, map-append, map-shift, joined-append, append-nil, append-brackets}
+use Rattle.meaning.proofs.Lists.{from-append, map-append, map-shift, joined-append, joined-more, append-brackets}
 use Rattle.spell.specs.Pieces.{Puts}
 use Rattle.spell.proofs.Pieces.{joined as both}
 use Rattle.written.specs.Cells.{cellsSent, startSent, blockCount}
@@ -22,19 +22,6 @@ use Rattle.send.specs.SendSteps.{SendableSheet}
 use Rattle.send.specs.WholeSteps.{blocksText, columnText, columnsText, wholeText}
 use Rattle.send.proofs.ProfileText.{field-put, named}
 use Rattle.send.proofs.ScanLaws.{sizes, start-most}
-
--- ---- texts joined
-
-pub joined-more : (f : ℕ → List ℕ) (k : ℕ) → joined (map f (below k)) ++ f k ≡ joined (map f (below (suc k)))
-joined-more f k =
-    let e : suc k ≡ k + 1 = omega arith in
-    let z : k ≡ 0 + k = omega arith in
-    ap (λ (i : ℕ). joined (map f (below k)) ++ f i) z
-    ∙ ap (λ (l : List ℕ). joined (map f (below k)) ++ l) (sym (append-nil (f (0 + k))))
-    ∙ sym (joined-append (map f (below k)) (map f (from (0 + k) 1)))
-    ∙ ap joined (sym (map-append f (below k) (from (0 + k) 1)))
-    ∙ ap (λ (l : List ℕ). joined (map f l)) (sym (from-append 0 k 1))
-    ∙ ap (λ (n : ℕ). joined (map f (below n))) (sym e)
 
 -- ---- sizes
 
@@ -56,12 +43,12 @@ module _ (h : Header) (grid : List ℤ) where
   -- one block more of a column's
   pub block-more : (c k : ℕ) {before out after : List ℕ} {at mid end : ℕ} → Puts before at (blocksText h grid c k) out mid
       → Puts out mid (profileBlock h grid c k) after end → Puts before at (blocksText h grid c (k + 1)) after end
-  block-more c k p q = rw (add-one k) (named (joined-more (profileBlock h grid c) k) (both p q))
+  block-more c k p q = rw (add-one k) (named (sym (joined-more (profileBlock h grid c) k)) (both p q))
 
   -- one column more
   pub column-more : (n : ℕ) {before out after : List ℕ} {at mid end : ℕ} → Puts before at (columnsText h grid n) out mid
       → Puts out mid (columnText h grid n) after end → Puts before at (columnsText h grid (n + 1)) after end
-  column-more n p q = rw (add-one n) (named (joined-more (columnText h grid) n) (both p q))
+  column-more n p q = rw (add-one n) (named (sym (joined-more (columnText h grid) n)) (both p q))
 
   -- where the next column starts
   pub next-start : (c at next : ℕ) → at ≡ 1024 * startSent h grid c → next ≡ at + 1024 * blocksFor (length (cellsSent h grid c))
@@ -108,7 +95,7 @@ module _ (template : List ℕ) (h : Header) (grid : List ℤ) where
       ∙ ap (λ (a : ℕ). joined (map sent (below s)) ++ joined (map sent (from a b))) z
       ∙ ap₂ (λ (x y : List ℕ). x ++ y) (columns-are n (omega (arith, le))) (column-is n le)
       ∙ append-brackets (blockZero template h grid) (columnsText h grid n) (columnText h grid n)
-      ∙ ap (λ (l : List ℕ). blockZero template h grid ++ l) (joined-more (columnText h grid) n)
+      ∙ ap (λ (l : List ℕ). blockZero template h grid ++ l) (sym (joined-more (columnText h grid) n))
 
   -- "the same bytes as the single calls in order"
   pub whole-is : wholeText template h grid ≡ joined (map (blockSent template h grid) (below (blockCount h grid)))
