@@ -1,12 +1,12 @@
 -- Block 0 as it is sent reads back as the template's header with what the writer puts in anew. Where each piece of the block begins carries it.
-use mathlib.Core.Bool.{Bool, true, false}
+use mathlib.Core.Bool.{true}
 use mathlib.Core.List.{List, [], _∷_, _++_, map}
 use mathlib.Core.Path.{_≡_, refl, sym, _∙_, ap}
 use Prim.Native.Nat.{ℕ, zero, suc, _+_, _*_, _-_, _%_, _≤_, _<_}
 use native.Mathlib.Nat.{le-of-suc-le-suc, not-suc-le-zero}
 use native.Mathlib.Omega.{arith}
 use borrow.Author.Tests.{eqb-true, eqb-false, eq-eqb, le-leb}
-use lib.Dec.{eqb}
+use lib.Dec.{eqb, lit<}
 use lib.IntN.{ℤ, pos}
 use lib.ListN.{length, take, drop, getD}
 use lib.Seq.{take-at, drop-append-add, take-take, drop-drop}
@@ -26,7 +26,7 @@ use Rattle.sheet.specs.RecordASteps.{rowAt}
 use Rattle.sheet.specs.declared.record_a.Checked.the-variants.{Sheet, Refused}
 use Rattle.sheet.specs.declared.record_a.Header.{Header}
 use Rattle.sheet.specs.declared.record_a.Limits.{Limits}
-use Rattle.sheet.proofs.HeaderA.{row-fine, verdict-sheet}
+use Rattle.sheet.proofs.HeaderA.{row-fine, verdict-field, verdict-sheet}
 use Rattle.sheet.proofs.RulesA.{sheet-exactly}
 use Rattle.session.specs.Session.{fieldsObey, headerObeys}
 use Rattle.session.proofs.Facts.{Ranged, Heading, header-facts}
@@ -110,23 +110,17 @@ reads-behind block rs zero a = a
 reads-behind block [] (suc i) done = done
 reads-behind block (r ∷ rs) (suc i) (reads z a) = reads-behind block rs i a
 
+pub template-length : (template : List ℕ) (h : Header) → recordA template ≡ Sheet h → length template ≡ 1024
+template-length template h is = sheet-exactly template .0 (h, is) .0
+
 -- a good block 0 has none
 sheet-fine : (block : List ℕ) (h : Header) → recordA block ≡ Sheet h → firstFault block fields .kind ≡ 0
-unfolding recordA
-sheet-fine block h e = go (eqb (faultOf block .kind) 0) refl (eqb (length block) 1024) refl (eqb (firstFault block fields .kind) 0) refl
-  where
-    go : (a : Bool) → eqb (faultOf block .kind) 0 ≡ a → (b : Bool) → eqb (length block) 1024 ≡ b
-        → (c : Bool) → eqb (firstFault block fields .kind) 0 ≡ c → firstFault block fields .kind ≡ 0
-    go false t b l c f =
-        let q : Refused (faultOf block .kind) (faultOf block .byte) ≡ Sheet h = rw t at e in
-        let z : _≡_ {A = ℕ} 0 1 = cc in absurd (omega arith)
-    go true t false l c f =
-        let z = eqb-true (faultOf block .kind) 0 t in
-        let q : _≡_ {A = ℕ} 1 0 = rw l at z in absurd (omega arith)
-    go true t true l true f = eqb-true (firstFault block fields .kind) 0 f
-    go true t true l false f =
-        let z = eqb-true (faultOf block .kind) 0 t in
-        rw (l, f) at z
+sheet-fine block h e =
+    let f = firstFault block fields in
+    by-test (eqb (f .kind) 0) (eqb-true (f .kind) 0)
+    (λ t.
+    let q : Refused (f .kind) (f .byte) ≡ Sheet h = verdict-field block (template-length block h e) f refl (eqb-false (f .kind) 0 t) ∙ e in
+    let z : _≡_ {A = ℕ} 0 1 = cc in absurd (omega (arith, z)))
 
 -- what stands in its limits is read
 ranged-read : (l : Limits) (v : ℕ) (r : Reading) → r ≡ read (pos v) → inRange l v ≡ true → ranged l r .kind ≡ 0
@@ -151,9 +145,6 @@ height-limits h t =
     and-first (inRange (heightLimits (h .vertical)) (h .zstep)) _ y
 
 -- ---- block 0
-
-pub template-length : (template : List ℕ) (h : Header) → recordA template ≡ Sheet h → length template ≡ 1024
-template-length template h is = sheet-exactly template .0 (h, is) .0
 
 module _ (template : List ℕ) (h : Header) (grid : List ℤ) (is : recordA template ≡ Sheet h)
     (fl : realFits 15 24 (leastStated (sheetCells h grid)) ≡ true)
@@ -192,11 +183,11 @@ module _ (template : List ℕ) (h : Header) (grid : List ℤ) (is : recordA temp
 
   system-is : wholeAt 157 sent ≡ h .system
   unfolding piecesBy
-  system-is = ap number (back 3 (omega arith))
+  system-is = ap number (back 3 (lit< tt))
 
   vertical-is : wholeAt 535 sent ≡ h .vertical
   unfolding piecesBy
-  vertical-is = ap number (back 7 (omega arith))
+  vertical-is = ap number (back 7 (lit< tt))
 
   template-row : (i : ℕ) → i < 41 → judgeRow template (rowAt i) .kind ≡ 0
   template-row = row-fine template (sheet-fine template h is)
@@ -209,7 +200,7 @@ module _ (template : List ℕ) (h : Header) (grid : List ℤ) (is : recordA temp
       let k = first - 169 in
       let e : first - 1 ≡ 168 + k = omega (arith, a) in
       let same : stretch first 24 sent ≡ stretch first 24 template =
-      rw e (shared sent template 168 360 k 24 (omega (arith, a, b)) (back 5 (omega arith)))
+      rw e (shared sent template 168 360 k 24 (omega (arith, a, b)) (back 5 (lit< tt)))
       in
       reads (ap (λ (f : List ℕ). judge form 0 0 f .kind) same ∙ z)
       (forms-read n (first + 24) rs (omega (arith, a)) (omega (arith, b)) t s)
@@ -223,39 +214,39 @@ module _ (template : List ℕ) (h : Header) (grid : List ℤ) (is : recordA temp
   rows-read : Reads sent fields
   unfolding fields piecesBy
   rows-read =
-      reads (ap (λ (f : List ℕ). judge words 0 0 f .kind) (back 0 (omega arith)) ∙ template-row 0 (omega arith))
-      (reads (limits-read (limits 1 3 1 9) (h .level) _ (back 1 (omega arith)) (heading .level))
-      (reads (ranged-read (limits 1 1 1 9) 1 _ (back 2 (omega arith)) refl)
-      (reads (limits-read (limits 0 2 1 9) (h .system) _ (back 3 (omega arith)) (record { least = omega arith; greatest = heading .system; step = omega arith }))
+      reads (ap (λ (f : List ℕ). judge words 0 0 f .kind) (back 0 (lit< tt)) ∙ template-row 0 (lit< tt))
+      (reads (limits-read (limits 1 3 1 9) (h .level) _ (back 1 (lit< tt)) (heading .level))
+      (reads (ranged-read (limits 1 1 1 9) 1 _ (back 2 (lit< tt)) refl)
+      (reads (limits-read (limits 0 2 1 9) (h .system) _ (back 3 (lit< tt)) (record { least = omega arith; greatest = heading .system; step = omega arith }))
       (reads
       (ap (λ (s : ℕ). ranged (zoneLimits s) (integer (stretch 163 6 sent)) .kind) system-is
-      ∙ ranged-read (zoneLimits (h .system)) (h .zone) _ (back 4 (omega arith)) (heading .zone))
+      ∙ ranged-read (zoneLimits (h .system)) (h .zone) _ (back 4 (lit< tt)) (heading .zone))
       (forms-read 15 169 _ (omega arith) (omega arith) (reads-behind template fields 5 template-reads)
       (reads
       (ap (λ (s : ℕ). ranged (groundLimits s) (integer (stretch 529 6 sent)) .kind) system-is
-      ∙ ranged-read (groundLimits (h .system)) (h .ground) _ (back 6 (omega arith)) (heading .ground))
-      (reads (limits-read (limits 1 2 1 9) (h .vertical) _ (back 7 (omega arith)) (heading .vertical))
-      (reads (ranged-read (limits 4 4 1 9) 4 _ (back 8 (omega arith)) refl)
-      (reads (ap kindOf (back 9 (omega arith)))
-      (reads (ap kindOf (back 10 (omega arith)))
-      (reads (ap kindOf (back 11 (omega arith)))
-      (reads (ap kindOf (back 12 (omega arith)))
-      (reads (ap kindOf (back 13 (omega arith)))
-      (reads (ap kindOf (back 14 (omega arith)))
-      (reads (ap kindOf (back 15 (omega arith)))
-      (reads (ap kindOf (back 16 (omega arith)))
-      (reads (ap kindOf (back 17 (omega arith)))
-      (reads (ap kindOf (back 18 (omega arith)))
-      (reads (ranged-read (limits 0 0 1 9) 0 _ (back 19 (omega arith)) refl)
-      (reads (ranged-read (limits 0 1 1 9) 0 _ (back 20 (omega arith)) refl)
-      (reads (limits-read steps (h .xstep) _ (back 21 (omega arith)) (heading .xstep))
-      (reads (limits-read steps (h .ystep) _ (back 22 (omega arith)) (heading .ystep))
+      ∙ ranged-read (groundLimits (h .system)) (h .ground) _ (back 6 (lit< tt)) (heading .ground))
+      (reads (limits-read (limits 1 2 1 9) (h .vertical) _ (back 7 (lit< tt)) (heading .vertical))
+      (reads (ranged-read (limits 4 4 1 9) 4 _ (back 8 (lit< tt)) refl)
+      (reads (ap kindOf (back 9 (lit< tt)))
+      (reads (ap kindOf (back 10 (lit< tt)))
+      (reads (ap kindOf (back 11 (lit< tt)))
+      (reads (ap kindOf (back 12 (lit< tt)))
+      (reads (ap kindOf (back 13 (lit< tt)))
+      (reads (ap kindOf (back 14 (lit< tt)))
+      (reads (ap kindOf (back 15 (lit< tt)))
+      (reads (ap kindOf (back 16 (lit< tt)))
+      (reads (ap kindOf (back 17 (lit< tt)))
+      (reads (ap kindOf (back 18 (lit< tt)))
+      (reads (ranged-read (limits 0 0 1 9) 0 _ (back 19 (lit< tt)) refl)
+      (reads (ranged-read (limits 0 1 1 9) 0 _ (back 20 (lit< tt)) refl)
+      (reads (limits-read steps (h .xstep) _ (back 21 (lit< tt)) (heading .xstep))
+      (reads (limits-read steps (h .ystep) _ (back 22 (lit< tt)) (heading .ystep))
       (reads
       (ap (λ (v : ℕ). ranged (heightLimits v) (real (stretch 841 12 sent)) .kind) vertical-is
-      ∙ ranged-read (heightLimits (h .vertical)) (h .zstep) _ (back 23 (omega arith)) (height-limits h obeys))
-      (reads (ranged-read (limits 1 1 1 9) 1 _ (back 24 (omega arith)) refl)
-      (reads (limits-read (limits 1 2048 1 7) (columnsOf h) _ (back 25 (omega arith)) (record { least = heading .columns .0; greatest = heading .columns .1; step = omega arith }))
-      (reads (ap (λ (f : List ℕ). judge words 0 0 f .kind) (back 26 (omega arith)) ∙ template-row 40 (omega arith))
+      ∙ ranged-read (heightLimits (h .vertical)) (h .zstep) _ (back 23 (lit< tt)) (height-limits h obeys))
+      (reads (ranged-read (limits 1 1 1 9) 1 _ (back 24 (lit< tt)) refl)
+      (reads (limits-read (limits 1 2048 1 7) (columnsOf h) _ (back 25 (lit< tt)) (record { least = heading .columns .0; greatest = heading .columns .1; step = omega arith }))
+      (reads (ap (λ (f : List ℕ). judge words 0 0 f .kind) (back 26 (lit< tt)) ∙ template-row 40 (lit< tt))
       done))))))))))))))))))))))))))
 
   -- ---- the header, and the whole record
@@ -264,22 +255,22 @@ module _ (template : List ℕ) (h : Header) (grid : List ℤ) (is : recordA temp
   zero-header =
       λ j.
       record {
-        level = number (back 1 (omega arith) j);
-        system = number (back 3 (omega arith) j);
-        zone = number (back 4 (omega arith) j);
-        ground = number (back 6 (omega arith) j);
-        vertical = number (back 7 (omega arith) j);
-        sw = record { x = back 9 (omega arith) j .value; y = back 10 (omega arith) j .value };
-        nw = record { x = back 11 (omega arith) j .value; y = back 12 (omega arith) j .value };
-        ne = record { x = back 13 (omega arith) j .value; y = back 14 (omega arith) j .value };
-        se = record { x = back 15 (omega arith) j .value; y = back 16 (omega arith) j .value };
-        least = back 17 (omega arith) j .value;
-        greatest = back 18 (omega arith) j .value;
-        accuracy = number (back 20 (omega arith) j);
-        xstep = number (back 21 (omega arith) j);
-        ystep = number (back 22 (omega arith) j);
-        zstep = number (back 23 (omega arith) j);
-        profiles = number (back 25 (omega arith) j);
+        level = number (back 1 (lit< tt) j);
+        system = number (back 3 (lit< tt) j);
+        zone = number (back 4 (lit< tt) j);
+        ground = number (back 6 (lit< tt) j);
+        vertical = number (back 7 (lit< tt) j);
+        sw = record { x = back 9 (lit< tt) j .value; y = back 10 (lit< tt) j .value };
+        nw = record { x = back 11 (lit< tt) j .value; y = back 12 (lit< tt) j .value };
+        ne = record { x = back 13 (lit< tt) j .value; y = back 14 (lit< tt) j .value };
+        se = record { x = back 15 (lit< tt) j .value; y = back 16 (lit< tt) j .value };
+        least = back 17 (lit< tt) j .value;
+        greatest = back 18 (lit< tt) j .value;
+        accuracy = number (back 20 (lit< tt) j);
+        xstep = number (back 21 (lit< tt) j);
+        ystep = number (back 22 (lit< tt) j);
+        zstep = number (back 23 (lit< tt) j);
+        profiles = number (back 25 (lit< tt) j);
       }
 
   one-to : (n : ℕ) → (1 ≤ n) × (n ≤ 2048) → oneTo2048 n ≡ true
