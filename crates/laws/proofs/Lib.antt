@@ -6,3 +6,4 @@ pub mod Tables
 pub mod Tests
 pub mod Tens
 pub mod Texts
+pub mod Fronts

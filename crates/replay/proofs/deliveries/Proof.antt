@@ -1,5 +1,5 @@
 -- The loop over a script's deliveries ends: the measure is the turns that are left. The grid keeps its length.
-use mathlib.Core.Path.{_≡_, refl, sym, _∙_}
+use mathlib.Core.Path.{_≡_, refl}
 use lib.ListN.{length}
 use native.Mathlib.Omega.{arith}
 use borrow.Author.Needs.{needs}

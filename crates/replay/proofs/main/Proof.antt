@@ -2,7 +2,7 @@
 use mathlib.Core.Path.{subst}
 use lib.IntN.{pos}
 use Rattle.replay.specs.Script.{Fitting}
-use Rattle.replay.proofs.Parts.{front-of}
+use Rattle.laws.proofs.Fronts.{front-of}
 use borrow.Author.Needs.{needs}
 use Rattle.replay.proofs.main.Statement.{statement}
 use Rattle.replay.proofs.main.Tie as tie

@@ -2,7 +2,7 @@
 use mathlib.Core.Path.{_∙_, ap}
 use Prim.Native.Nat.{ℕ, _*_}
 use lib.IntN.{pos}
-use Rattle.sender.proofs.Parts.{front-of}
+use Rattle.laws.proofs.Fronts.{front-of}
 use borrow.Author.Needs.{needs}
 use Rattle.sender.proofs.lend_grid.Statement.{statement}
 use Rattle.sender.proofs.lend_grid.Tie as tie
