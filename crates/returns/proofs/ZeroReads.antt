@@ -23,11 +23,11 @@ use Rattle.sheet.specs.Lattice.{notNegative}
 use Rattle.sheet.specs.RecordA.{Row, rows, fields, judge, judgeRow, firstFault, faultOf, recordA, headerOf, stretch, inRange, ranged, limits, zoneLimits, groundLimits, heightLimits, billion, columnsOf, rowsOf, oneTo2048, wholeFault, wholeAt}
 use Rattle.sheet.specs.RecordA.Rule.{words, form}
 use Rattle.sheet.specs.RecordASteps.{rowAt}
-use Rattle.sheet.specs.declared.record_a.Checked.the-variants.{Sheet, Refused}
+use Rattle.sheet.specs.declared.record_a.Checked.the-variants.{Sheet}
 use Rattle.sheet.specs.declared.record_a.Header.{Header}
 use Rattle.sheet.specs.declared.record_a.Limits.{Limits}
-use Rattle.sheet.proofs.HeaderA.{row-fine, verdict-field, verdict-sheet}
-use Rattle.sheet.proofs.RulesA.{sheet-exactly}
+use Rattle.sheet.proofs.HeaderA.{row-fine, verdict-sheet}
+use Rattle.sheet.proofs.RulesA.{sheet-exactly, sheet-fine}
 use Rattle.session.specs.Session.{fieldsObey, headerObeys}
 use Rattle.session.proofs.Facts.{Ranged, Heading, header-facts}
 use Rattle.load.proofs.SoundOut.{sheet-obeys}
@@ -113,15 +113,6 @@ reads-behind block (r ∷ rs) (suc i) (reads z a) = reads-behind block rs i a
 pub template-length : (template : List ℕ) (h : Header) → recordA template ≡ Sheet h → length template ≡ 1024
 template-length template h is = sheet-exactly template .0 (h, is) .0
 
--- a good block 0 has none
-sheet-fine : (block : List ℕ) (h : Header) → recordA block ≡ Sheet h → firstFault block fields .kind ≡ 0
-sheet-fine block h e =
-    let f = firstFault block fields in
-    by-test (eqb (f .kind) 0) (eqb-true (f .kind) 0)
-    (λ t.
-    let q : Refused (f .kind) (f .byte) ≡ Sheet h = verdict-field block (template-length block h e) f refl (eqb-false (f .kind) 0 t) ∙ e in
-    let z : _≡_ {A = ℕ} 0 1 = cc in absurd (omega (arith, z)))
-
 -- what stands in its limits is read
 ranged-read : (l : Limits) (v : ℕ) (r : Reading) → r ≡ read (pos v) → inRange l v ≡ true → ranged l r .kind ≡ 0
 ranged-read l v r e t = rw (e, t)
@@ -162,7 +153,7 @@ module _ (template : List ℕ) (h : Header) (grid : List ℤ) (is : recordA temp
   heading = header-facts h obeys
 
   template-reads : Reads template fields
-  template-reads = fine-reads template fields (sheet-fine template h is)
+  template-reads = fine-reads template fields (sheet-fine template is)
 
   fit : all pieceFits ps ≡ true
   fit = all-fit h (leastStated (sheetCells h grid)) (greatestStated (sheetCells h grid)) (columnsOf h) obeys fl fg (heading .columns .1)
@@ -190,7 +181,7 @@ module _ (template : List ℕ) (h : Header) (grid : List ℤ) (is : recordA temp
   vertical-is = ap number (back 7 (lit< tt))
 
   template-row : (i : ℕ) → i < 41 → judgeRow template (rowAt i) .kind ≡ 0
-  template-row = row-fine template (sheet-fine template h is)
+  template-row = row-fine template (sheet-fine template is)
 
   forms-read : (n first : ℕ) (rs : List Row) → 169 ≤ first → first + n * 24 ≤ 529
       → Reads template (rows n first 24 form ++ rs) → Reads sent rs → Reads sent (rows n first 24 form ++ rs)

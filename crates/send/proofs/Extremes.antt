@@ -12,6 +12,7 @@ use mir.Facts.{toZ-ofZ}
 use mir.Syntax.{w64}
 use mir.Val.{SFits, toZ, ofZ}
 use Rattle.laws.proofs.Integers.{size-multiple, size-fits}
+use Rattle.laws.proofs.Tests.{either}
 use Rattle.number.proofs.GrammarParts.{by-test}
 use Rattle.sheet.specs.RecordA.{lesser, greater}
 use Rattle.load.specs.Posts.{void, sameZ}
@@ -46,15 +47,14 @@ running-start cells = ap running (sym (drop-length cells))
 
 -- ---- sizes
 
+abbrev small : ℤ → Type 0
+small x = natAbs x ≤ 2147483648
+
 abbrev pub Small : Running → Type 0
-Small t = (natAbs (t .low) ≤ 2147483648) × (natAbs (t .high) ≤ 2147483648)
+Small t = small (t .low) × small (t .high)
 
 pub none-small : Small noCell
 none-small = (omega arith, omega arith)
-
-picked-small : (b : Bool) (x y : ℤ) → natAbs x ≤ 2147483648 → natAbs y ≤ 2147483648 → natAbs (cond b x y) ≤ 2147483648
-picked-small true x y h k = h
-picked-small false x y h k = k
 
 pub with-small : (cell : ℤ) (t : Running) → natAbs cell ≤ 2147483648 → Small t → Small (withCell cell t)
 with-small cell t k s = go (sameZ cell void) refl (t .some) refl
@@ -62,7 +62,7 @@ with-small cell t k s = go (sameZ cell void) refl (t .some) refl
     go : (b : Bool) → sameZ cell void ≡ b → (d : Bool) → t .some ≡ d → Small (withCell cell t)
     go true e d f = rw e s
     go false e true f =
-        rw (e, f) (picked-small (ltZ (t .low) cell) (t .low) cell (s .0) k, picked-small (ltZ cell (t .high)) (t .high) cell (s .1) k)
+        rw (e, f) (either small (ltZ (t .low) cell) (s .0) k, either small (ltZ cell (t .high)) (s .1) k)
     go false e false f = rw (e, f) (k, k)
 
 -- hundredths as billionths, of any cell, as the machine has them

@@ -1,22 +1,16 @@
 -- One cell more, by the cases of `withCell`; the heights are carried as bits and read back.
-use Prim.Native.Nat.{_<_, _^_}
 use mathlib.Core.Bool.{false}
 use mathlib.Core.Path.{_≡_, sym, _∙_, ap, ap₂}
 use borrow.Author.Needs.{needs}
 use borrow.Author.Tests.{not-true, not-false}
 use lib.IntN.{ℤ}
-use lib.Signed.{mag}
 use mir.Facts.{toZ-ofZ}
-use mir.Syntax.{w64}
-use mir.Val.{toZ, ofZ}
+use Rattle.laws.proofs.Signs.{back}
 use Rattle.sheet.specs.RecordA.{lesser, greater}
 use Rattle.load.specs.Posts.{void, sameZ}
 use Rattle.send.proofs.Sendable.{wide-fits, wide-back}
 use Rattle.send.proofs.scan.with_cell.Statement.{statement}
 use Rattle.send.proofs.scan.with_cell.Tie as tie
-
-back : (z : ℤ) → mag z < 2 ^ 63 → toZ w64 (ofZ w64 z) ≡ z
-back z h = toZ-ofZ (record { sfits = h })
 
 is-void-requires : tie.Need-is-void-requires
 is-void-requires c κs = search needs
