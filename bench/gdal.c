@@ -1,7 +1,6 @@
 /* GDAL as a reader for bench/speed.sh: opens the sheet named, reads its band whole, and prints rows, columns, filled posts, and the
    microseconds from the opening to the last cell; what GDAL does before it opens a file is not counted. */
 #include <gdal.h>
-#include <stdint.h>
 #include <stdio.h>
 #include <stdlib.h>
 #include <time.h>

@@ -399,19 +399,6 @@ opening-grows s block h t due idle below e z c r =
       cells = cells-with s f p 145 n block z datum;
     }
 
--- a profile that opens: it stays open, or its only block closes it
-pub sound-opened : (s : Session) (block : List ℕ) (h : Head) → sound s ≡ true → 1 ≤ s .taken → busy s ≡ false
-    → s .closed < s .header .profiles → recordB (s .closed + 1) block ≡ Headed·Profile h
-    → blockFault 145 (min (h .posts) 146) block .kind ≡ 0 → columnFits s (columnPlace s h) ≡ true
-    → rowFits s (h .posts) (rowPlace s h) ≡ true → (hs : List ℤ) → hs ≡ heightsHere s (opened s h) 145 (min (h .posts) 146) block
-    → (length hs < h .posts → sound (filledSession s (firstColumn s h) (opened s h) hs) ≡ true)
-    × (h .posts ≤ length hs → sound (closedSession (filledSession s (firstColumn s h) (opened s h) hs)) ≡ true)
-sound-opened s block h t due idle below e z c r hs is =
-    let g : Grows s (firstColumn s h) (opened s h) hs = rw is (opening-grows s block h t due idle below e z c r) in (
-      λ k. sound-filled s (firstColumn s h) (opened s h) hs g (omega (arith, k)),
-      λ k. sound-closed s (firstColumn s h) (opened s h) hs g (omega (arith, k)),
-    )
-
 -- ---- a verdict, test by test
 
 -- "each filled cell lies from -4,276,700 to 4,276,700": so does every height that a verdict fills a cell with, or it is void
