@@ -4,7 +4,7 @@ ghost use Rattle.number.specs.Integer.{integer};
 ghost use Rattle.number.specs.Real.{real};
 ghost use Rattle.label.specs.Label.{originOf, nameLength};
 ghost use Rattle.sheet.specs.RecordA.{recordA, checkedKind, checkedByte};
-use sheet::record_a::Checked;
+use sheet::Checked;
 
 // 0, or document 01's number of the refusal.
 #[no_mangle]
@@ -47,7 +47,7 @@ pub extern "C" fn dem_real_value(field: &[u8]) -> i64
 pub extern "C" fn dem_record_a_kind(block: &[u8]) -> u32
     ensures { λ r. ⌜ r ≡ checkedKind (recordA (now (block .entry))) ⌝ }
 {
-    match sheet::record_a::check_record_a(block) {
+    match sheet::check_record_a(block) {
         Checked::Sheet(_) => 0,
         Checked::Refused(kind, _) => kind,
     }
@@ -58,7 +58,7 @@ pub extern "C" fn dem_record_a_kind(block: &[u8]) -> u32
 pub extern "C" fn dem_record_a_byte(block: &[u8]) -> u32
     ensures { λ r. ⌜ r ≡ checkedByte (recordA (now (block .entry))) ⌝ }
 {
-    match sheet::record_a::check_record_a(block) {
+    match sheet::check_record_a(block) {
         Checked::Sheet(_) => 0,
         Checked::Refused(_, byte) => byte,
     }

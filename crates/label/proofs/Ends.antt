@@ -1,12 +1,12 @@
 -- Where a name ends, looked at from its last byte: a blank there changes nothing, any other byte is the end.
-use mathlib.Core.Bool.{false}
 use mathlib.Core.List.{List, [], _∷_, _++_}
 use mathlib.Core.Path.{_≡_, refl, sym, _∙_, ap}
 use Prim.Native.Nat.{ℕ, suc, _-_, _≤_, _<_}
-use native.Mathlib.Omega.{arith}
-use borrow.Author.Tests.{ne-eqb}
+use mathlib.Core.Bool.{false}
 use lib.Dec.{eqb, eqb·suc-zero}
 use lib.ListN.{length, take, getD}
+use native.Mathlib.Omega.{arith}
+use borrow.Author.Tests.{ne-eqb}
 use lib.Seq.{take-suc, length-take-le}
 use Rattle.label.specs.Label.{filled}
 

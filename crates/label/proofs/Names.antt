@@ -1,13 +1,13 @@
 -- What a name's length says: it ends within the text, only blanks follow, and its last byte is none. These three leave one number. An induction on the text carries it.
-use mathlib.Core.Bool.{Bool, true, false, cond}
-use mathlib.Core.List.{List, [], _∷_}
+use mathlib.Core.List.{List, _∷_, []}
 use mathlib.Core.Path.{_≡_, refl}
-use Prim.Native.Nat.{ℕ, zero, suc, _-_, _≤_, _<_}
+use Prim.Native.Nat.{ℕ, _-_, _≤_, _<_, zero, suc}
+use lib.ListN.{length, getD, take, length-take}
+use mathlib.Core.Bool.{Bool, true, false, cond}
 use native.Mathlib.Omega.{arith}
-use native.Mathlib.Decide.{decLt, ℕ-discrete}
 use borrow.Author.Tests.{eqb-true, eqb-false}
 use lib.Dec.{eqb, eqb·suc-zero}
-use lib.ListN.{length, take, getD, length-take}
+use native.Mathlib.Decide.{decLt, ℕ-discrete}
 use lib.Seq.{length-take-le}
 use Rattle.laws.proofs.Answers.{one-answer}
 use Rattle.label.specs.Label.{filled, nameLength}

@@ -1,16 +1,16 @@
 -- What an origin's number says: k + 1 exactly where bytes 141 to 144 are the k-th code, 0 exactly where they are none of the six. A text's place in any list carries it, with one computed test: each code has its own place.
-use mathlib.Core.Bool.{Bool, true, false}
 use mathlib.Core.List.{List, [], _∷_}
-use mathlib.Core.Logic.{_↔_, _⊎_, inl, inr}
 use mathlib.Core.Path.{_≡_, refl, sym, _∙_}
-use Prim.Native.Nat.{ℕ, suc, _+_, _<_}
+use Prim.Native.Nat.{ℕ, _+_, _<_, suc}
+use lib.ListN.{length, getD, List·getD-map, take, drop}
+use mathlib.Core.Bool.{Bool, true, false}
+use mathlib.Core.Logic.{_⊎_, inl, inr, _↔_}
 use native.Mathlib.Omega.{arith}
-use lib.ListN.{length, take, drop, getD, List·getD-map}
 use Rattle.laws.specs.Texts.{same}
-use Rattle.laws.proofs.Answers.{one-answer}
-use Rattle.laws.proofs.Tables.{entry}
 use Rattle.laws.proofs.Texts.{same-is}
-use Rattle.label.specs.Label.{origins, placeIn, originOf}
+use Rattle.laws.proofs.Tables.{entry}
+use Rattle.laws.proofs.Answers.{one-answer}
+use Rattle.label.specs.Label.{placeIn, origins, originOf}
 use Rattle.label.proofs.Blocks.{origin-of, no-origin}
 
 -- a text stands in a list, i places after the first, which is counted as n

@@ -1,7 +1,7 @@
 -- Document 01, "Record A": the origin's number and the sheet's name.
-use mathlib.Core.Bool.{cond}
 use mathlib.Core.List.{List, [], _∷_}
 use Prim.Native.Nat.{ℕ, suc}
+use mathlib.Core.Bool.{cond}
 use lib.Dec.{eqb}
 use lib.ListN.{length, take, drop}
 use Rattle.laws.specs.Texts.{bytes, same}

@@ -1,13 +1,13 @@
 -- Numbers with a sign, each as how far it lies above zero and how far below: in these parts omega reads orders, sums, multiples and sizes.
-use mathlib.Core.Bool.{Bool, true, false}
-use mathlib.Core.Path.{_≡_, refl, sym, _∙_, ap}
-use Prim.Native.Nat.{ℕ, zero, suc, min, _+_, _-_, _*_, _^_, _≤_, _<_}
-use native.Mathlib.Nat.{zero-mul, add-mul, mul-le-mul-right}
+use Prim.Native.Nat.{ℕ, suc, min, _+_, _≤_, _-_, _<_, zero, _*_, _^_}
+use lib.IntN.{ℤ, pos, negsuc, natAbs, subℕ, _+ℤ_, negℤ, _*ℤ_, _-ℤ_, +ℤ-comm, +ℤ-negℤ-cancel, -ℤ-+ℤ-cancel}
+use mathlib.Core.Path.{_≡_, ap, refl, sym, _∙_}
 use native.Mathlib.Omega.{arith}
-use borrow.Author.Tests.{ltb-true, ltb-false}
-use lib.Dec.{ltb, le→leb, leb→le}
-use lib.IntN.{ℤ, pos, negsuc, negℤ, natAbs, subℕ, _+ℤ_, _-ℤ_, _*ℤ_, +ℤ-comm, +ℤ-negℤ-cancel, -ℤ-+ℤ-cancel}
+use lib.Dec.{leb→le, le→leb, ltb}
 use lib.Signed.{_≤ℤ_}
+use mathlib.Core.Bool.{Bool, true, false}
+use borrow.Author.Tests.{ltb-true, ltb-false}
+use native.Mathlib.Nat.{zero-mul, add-mul, mul-le-mul-right}
 use mir.Syntax.{Width}
 use mir.Val.{SFits, hbits}
 use Rattle.laws.specs.Sign.{signed}

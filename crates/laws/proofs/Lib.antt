@@ -7,3 +7,8 @@ pub mod Tests
 pub mod Tens
 pub mod Texts
 pub mod Fronts
+pub mod SameNumbers
+pub mod Naturals
+pub mod Cells
+pub mod Lists
+pub mod Told

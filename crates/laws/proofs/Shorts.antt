@@ -1,12 +1,12 @@
 -- How many digits a number has, and that a number is short exactly when it is a few digits followed by zeros.
-use mathlib.Core.Bool.{Bool, true, false, cond}
+use mathlib.Core.Bool.{cond, Bool, true, false}
 use mathlib.Core.Path.{_≡_, refl, sym, _∙_, ap, subst}
-use Prim.Native.Nat.{ℕ, zero, suc, _+_, _*_, _-_, _/_, _%_, _^_, _≤_, _<_}
+use Prim.Native.Nat.{ℕ, suc, _^_, zero, _<_, _-_, _≤_, _*_, _+_, _/_, _%_}
+use lib.Dec.{ltb}
+use borrow.Author.Tests.{ltb-true, ltb-false, eqb-true, eq-eqb}
+use native.Mathlib.Omega.{arith}
 use native.Mathlib.Nat.{div-add-mod', div-lt-iff-lt-mul, mul-mod-left, mul-assoc, mul-lt-mul-of-pos-right, zero-mod}
 use native.Mathlib.Decide.{decLe}
-use native.Mathlib.Omega.{arith}
-use borrow.Author.Tests.{ltb-true, ltb-false, eqb-true, eq-eqb}
-use lib.Dec.{ltb}
 use lib.Pow.{pow-add}
 use Rattle.laws.specs.Digits.{places, short}
 use Rattle.laws.proofs.Tens.{ten-pos, ten-up}

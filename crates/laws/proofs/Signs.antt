@@ -1,16 +1,16 @@
 -- A sign and a size put together and taken apart, and numbers with a sign read back, as the machine does it.
+use Prim.Native.Nat.{ℕ, zero, suc, _≤_, _^_, _<_, _+_}
+use native.Mathlib.Omega.{arith}
+use lib.IntN.{pos, negℤ, ℤ, _-ℤ_, +ℤ-idl, negsuc, natAbs, _+ℤ_, +ℤ-one, negℤ-negℤ}
+use lib.Signed.{mag, ltZ, nonNeg}
 use mathlib.Core.Bool.{true, false}
 use mathlib.Core.Path.{_≡_, _∙_, ap, subst⁻¹}
-use Prim.Native.Nat.{ℕ, zero, suc, _+_, _^_, _≤_, _<_}
-use native.Mathlib.Nat.{lt-of-le-of-lt}
-use native.Mathlib.Omega.{arith}
-use borrow.Author.Tests.{ltb-true}
-use lib.Dec.{T, ltb}
-use lib.IntN.{ℤ, pos, negsuc, negℤ, natAbs, _-ℤ_, _+ℤ_, +ℤ-idl, +ℤ-one, negℤ-negℤ}
-use lib.Signed.{mag, ltZ, nonNeg}
-use mir.Syntax.{Width, w64}
-use mir.Val.{Fits, SFits, toZ, ofZ, bits, hbits}
+use mir.Syntax.{w64, Width}
+use mir.Val.{toZ, SFits, ofZ, Fits, bits, hbits}
 use mir.Facts.{toZ-pos, toZ-ofZ, fits-natAbs}
+use lib.Dec.{T, ltb}
+use native.Mathlib.Nat.{lt-of-le-of-lt}
+use borrow.Author.Tests.{ltb-true}
 use Rattle.laws.specs.Sign.{signed}
 use Rattle.laws.proofs.Tests.{clash}
 

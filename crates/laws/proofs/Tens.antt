@@ -1,9 +1,9 @@
 -- Powers of ten.
-use mathlib.Core.Path.{_≡_}
-use Prim.Native.Nat.{ℕ, suc, _+_, _*_, _-_, _^_, _≤_, _<_}
-use native.Mathlib.Nat.{one-le-pow, pow-suc, pow-le-pow-right}
-use native.Mathlib.Omega.{arith}
+use Prim.Native.Nat.{ℕ, _^_, _<_, _≤_, suc, _+_, _*_, _-_}
+use native.Mathlib.Nat.{one-le-pow, pow-le-pow-right, pow-suc}
 use lib.Dec.{lit<}
+use mathlib.Core.Path.{_≡_}
+use native.Mathlib.Omega.{arith}
 
 pub ten-pos : (k : ℕ) → 0 < 10 ^ k
 ten-pos k = one-le-pow k 10 (lit< tt)

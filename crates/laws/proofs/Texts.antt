@@ -1,13 +1,13 @@
 -- Texts compared byte for byte: the test passes exactly where the two are one text. One induction on both texts carries it.
-use mathlib.Core.Bool.{Bool, true, false}
+use mathlib.Core.Bool.{true, Bool, false}
 use mathlib.Core.List.{List, [], _∷_}
-use mathlib.Core.Logic.{_↔_}
 use mathlib.Core.Path.{_≡_, refl, sym, ap₂}
 use Prim.Native.Nat.{ℕ}
-use borrow.Author.Tests.{eqb-true, eq-eqb}
+use borrow.Author.Tests.{eq-eqb, eqb-true}
 use lib.Dec.{eqb}
+use mathlib.Core.Logic.{_↔_}
 use Rattle.laws.specs.Texts.{same}
-use Rattle.laws.proofs.Tests.{clash, and-first, and-second, and-both}
+use Rattle.laws.proofs.Tests.{and-both, clash, and-first, and-second}
 
 same-self : (s : List ℕ) → same s s ≡ true
 same-self [] = refl

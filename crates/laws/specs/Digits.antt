@@ -1,6 +1,6 @@
 -- Decimal digits of a number. Nothing here knows the format.
-use mathlib.Core.Bool.{Bool, cond}
-use Prim.Native.Nat.{ℕ, zero, suc, _-_, _%_, _^_}
+use mathlib.Core.Bool.{cond, Bool}
+use Prim.Native.Nat.{ℕ, zero, suc, _^_, _-_, _%_}
 use lib.Dec.{ltb, eqb}
 
 -- how many decimal digits n has, where it has at most k; zero has none

@@ -1,3 +1,4 @@
 pub mod Sign
 pub mod Digits
 pub mod Texts
+pub mod Lists

@@ -1,8 +1,9 @@
 -- A number with a sign, its test for zero, and the two tests joined that a rule names together. Nothing here knows the format.
-use mathlib.Core.Bool.{Bool, true, false}
+use mathlib.Core.Bool.{Bool, true, false, cond}
 use Prim.Native.Nat.{ℕ}
+use lib.IntN.{ℤ, pos, negℤ, negsuc}
 use lib.Dec.{eqb}
-use lib.IntN.{ℤ, pos, negsuc, negℤ}
+use lib.Signed.{ltZ}
 
 -- n, or minus n; minus zero is zero
 abbrev pub signed : Bool → ℕ → ℤ
@@ -17,3 +18,23 @@ infixr 30 _and_
 abbrev pub _and_ : Bool → Bool → Bool
 true and b = b
 false and b = false
+
+abbrev pub implies : Bool → Bool → Bool
+implies a b = cond a b true
+
+abbrev pub sameZ : ℤ → ℤ → Bool
+sameZ (pos a) (pos b) = eqb a b
+sameZ (pos a) (negsuc b) = false
+sameZ (negsuc a) (pos b) = false
+sameZ (negsuc a) (negsuc b) = eqb a b
+
+-- how many from the first to the last, ends included; none where the last lies before the first
+abbrev pub notNegative : ℤ → ℕ
+notNegative (pos n) = n
+notNegative (negsuc n) = 0
+
+abbrev pub lesser : ℤ → ℤ → ℤ
+lesser a b = cond (ltZ b a) b a
+
+abbrev pub greater : ℤ → ℤ → ℤ
+greater a b = cond (ltZ a b) b a

@@ -1,28 +1,17 @@
 -- The lines of document 01's sheet and the numbers at the edge, by computation.
-use mathlib.Core.List.{[], _∷_, _++_}
-use mathlib.Core.Path.{_≡_, refl}
 use Prim.Native.Nat.{ℕ, _*_, _^_}
 use lib.IntN.{pos, negℤ}
+use mathlib.Core.List.{[], _∷_, _++_}
+use mathlib.Core.Path.{_≡_, refl}
+use Rattle.laws.specs.Digits.{places}
 use Rattle.laws.specs.Texts.{bytes}
-use Rattle.sheet.specs.Lattice.{latticeOf}
-use Rattle.sheet.specs.declared.record_a.Corner.{Corner}
-use Rattle.sheet.specs.declared.record_a.Header.{Header}
-use Rattle.session.specs.Session.{fresh, noProfile}
+use Rattle.numerals.specs.Numerals.{spell, count, numeral}
+use Rattle.lattice.specs.Lattice.{latticeOf}
+use Rattle.frame.specs.declared.Corner.{Corner}
+use Rattle.frame.specs.declared.Header.{Header}
+use Rattle.session.specs.Session.{noProfile, fresh}
 use Rattle.session.specs.declared.Session.{Session}
-use Rattle.lines.specs.Lines.{
-  digits,
-  numeral,
-  units,
-  hundredths,
-  headLine,
-  postsLine,
-  rangeLine,
-  endLine,
-  reportText,
-  refusedText,
-  unfinishedText,
-  endText,
-}
+use Rattle.lines.specs.Lines.{units, headLine, postsLine, rangeLine, endLine, reportText, endText, unfinishedText, refusedText, hundredths}
 
 abbrev corner : ℕ → ℕ → Corner
 corner x y = record { x = pos (x * 10 ^ 9); y = pos (y * 10 ^ 9) }
@@ -70,25 +59,25 @@ the-paper's-lines : endText listed
     ++ (10
     ∷ (bytes "posts 5 void 1"
     ++ (10 ∷ (bytes "range 9.00 12.00" ++ (10 ∷ (bytes "end 3" ++ (10 ∷ [])))))))
-unfolding endText reportText headLine postsLine rangeLine endLine units digits latticeOf
+unfolding endText reportText headLine postsLine rangeLine endLine units spell count places latticeOf
 the-paper's-lines = refl
 
 nothing-read : endText fresh ≡ bytes "unfinished 0" ++ (10 ∷ [])
-unfolding endText unfinishedText reportText headLine postsLine rangeLine endLine units digits latticeOf
+unfolding endText unfinishedText reportText headLine postsLine rangeLine endLine units spell count places latticeOf
 nothing-read = refl
 
 a-short-block : refusedText 1 7 0 ≡ bytes "refused 1 7 0" ++ (10 ∷ [])
-unfolding refusedText digits
+unfolding refusedText spell count places
 a-short-block = refl
 
 below-zero : hundredths (negℤ (pos 5)) ≡ bytes "-0.05"
-unfolding units digits
+unfolding units spell count places
 below-zero = refl
 
 whole-units : hundredths (pos 900) ≡ bytes "9.00"
-unfolding units digits
+unfolding units spell count places
 whole-units = refl
 
 the-greatest-number : numeral 18446744073709551615 ≡ bytes "18446744073709551615"
-unfolding digits
+unfolding spell count places
 the-greatest-number = refl

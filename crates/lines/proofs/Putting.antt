@@ -1,18 +1,16 @@
--- Pieces of a line put one after another, a word copied byte by byte, and a text given to lent bytes: each a step on lists.
-use mathlib.Core.Bool.{Bool, true, false}
-use mathlib.Core.List.{List, [], _∷_, _++_}
-use mathlib.Core.Path.{_≡_, refl, sym, _∙_, ap, subst}
-use Prim.Native.Nat.{ℕ, zero, suc, _+_, _-_, _/_, _%_, _≤_, _<_}
-use native.Mathlib.Numerals.{add-one}
+-- Pieces of a line put one after another, each of a bounded length, and a text given to lent bytes.
+use mathlib.Core.List.{List, _++_}
+use Prim.Native.Nat.{ℕ, _+_, _≤_}
 use native.Mathlib.Omega.{arith}
-use borrow.Author.Tests.{lt-ltb, le-ltb, leb-true}
+use lib.ListN.{length, drop}
+use mathlib.Core.Bool.{cond, Bool, true, false}
+use mathlib.Core.Path.{_≡_, _∙_, ap, subst, refl}
 use lib.Dec.{leb}
-use lib.ListN.{length, take, drop, getD, set}
-use lib.Seq.{take-suc, take-all, take-length, drop-cons, set-at, append-snoc, length-take-le}
-use Rattle.spell.specs.Pieces.{Puts}
-use Rattle.spell.proofs.Pieces.{put-none, put-one, joined}
-use Rattle.lines.specs.Lines.{digits, used, Given}
+use borrow.Author.Tests.{leb-true}
+use Rattle.numerals.specs.Pieces.{GivenAt}
+use Rattle.numerals.proofs.Pieces.{joined, puts}
 use Rattle.lines.specs.Pieces.{Within}
+use Rattle.lines.specs.Lines.{Given, used}
 
 -- ---- pieces of a bounded length
 
@@ -24,58 +22,27 @@ then x y = record { puts = joined (x .puts) (y .puts); short = omega (arith, x .
 pub wider : {a b : ℕ} {f g p : List ℕ} {at end : ℕ} → a ≤ b → Within a f at p g end → Within b f at p g end
 wider h x = record { puts = x .puts; short = omega (arith, h, x .short) }
 
-pub one : {f g : List ℕ} {at byte end : ℕ} → Puts f at (byte ∷ []) g end → Within 1 f at (byte ∷ []) g end
-one p = record { puts = p; short = omega (arith, p .place) }
+-- a piece that was put, of at most so many bytes, where they have room
+pub within : (most : ℕ) {f g p : List ℕ} {at end : ℕ} → GivenAt at p f g end → length p ≤ most → at + most ≤ length f
+    → Within most f at p g end
+within most g l h =
+    let p = puts g (omega arith) in
+    record { puts = p; short = omega (arith, p .place) }
 
--- ---- the digits of a number
-
-pub digits-none : (n : ℕ) → digits 0 n ≡ []
-unfolding digits
-digits-none n = refl
-
-pub digits-last : (k n : ℕ) → 0 < k → n < 10 → digits k n ≡ (48 + n) ∷ []
-unfolding digits
-digits-last zero n p h = absurd (omega arith)
-digits-last (suc k) n p h = rw (lt-ltb n 10 h)
-
-pub digits-more : (k n : ℕ) → 0 < k → 10 ≤ n → digits k n ≡ digits (k - 1) (n / 10) ++ ((48 + n % 10) ∷ [])
-unfolding digits
-digits-more zero n p h = absurd (omega arith)
-digits-more (suc k) n p h =
-    let e : suc k - 1 ≡ k = omega arith in
-    rw (le-ltb n 10 h, e)
-
--- ---- a word
-
-pub word-none : (f word : List ℕ) (at i : ℕ) → i ≡ 0 → Puts f at (take i word) f (at + i)
-word-none f word at i e =
-    let z : at + i ≡ at = omega arith in
-    rw (z, e) (put-none f at)
-
-pub word-turn : (f g word : List ℕ) (at i : ℕ) → Puts f at (take i word) g (at + i) → i < length word → at + i < length g
-    → Puts f at (take (i + 1) word) (set g (at + i) (getD word i 0)) (at + (i + 1))
-word-turn f g word at i p h r =
-    let z : at + (i + 1) ≡ at + i + 1 = omega arith in
-    rw (z, add-one i, take-suc word i 0 h) (joined p (put-one g (at + i) (getD word i 0) r))
-
-pub word-whole : (f g word : List ℕ) (at i : ℕ) → Puts f at (take i word) g (at + i) → length word ≤ i
-    → Puts f at word g (at + i)
-word-whole f g word at i p h = subst (λ (w : List ℕ). Puts f at w g (at + i)) (take-all i word h) p
+-- the same with those behind it, where all have room
+pub put : (a : ℕ) {b : ℕ} {f g h p q : List ℕ} {at mid end : ℕ} → GivenAt at p f g mid → length p ≤ a
+    → (mid + b ≤ length g → Within b g mid q h end) → at + (a + b) ≤ length f → Within (a + b) f at (p ++ q) h end
+put a x l rest h =
+    let w = within a x l (omega arith) in
+    then w (rest (omega (arith, w .short, w .puts .kept)))
 
 -- ---- a text given to lent bytes
 
-pub give-turn : (text out : List ℕ) (i : ℕ) → i < length text → i < length out
-    → set (take i text ++ drop i out) i (getD text i 0) ≡ take (i + 1) text ++ drop (i + 1) out
-give-turn text out i g h =
-    let b = getD text i 0 in
-    let l : i ≤ length text = omega arith in
-    ap (λ (x : List ℕ). set (take i text ++ x) i b) (drop-cons out i 0 h)
-    ∙ set-at (take i text) (getD out i 0) (drop (suc i) out) b i (length-take-le i text l)
-    ∙ sym (append-snoc (take i text) b (drop (suc i) out))
-    ∙ rw (add-one i) (ap (λ (x : List ℕ). x ++ drop (suc i) out) (sym (take-suc text i 0 g)))
-
-pub given-whole : (text out : List ℕ) (i : ℕ) → i ≡ length text → take i text ++ drop i out ≡ text ++ drop (length text) out
-given-whole text out i e = rw e (ap (λ (x : List ℕ). x ++ drop (length text) out) (take-length text))
+-- a piece at the front
+pub given-front : {text out after : List ℕ} {r : ℕ} → GivenAt 0 text out after r → Given text out after r
+given-front {text} {out} g =
+    let e : 0 + length text ≡ length text = omega arith in
+    (g .end ∙ ap (λ (k : ℕ). cond (leb k (length out)) k 0) e, g .bytes ∙ ap (λ (k : ℕ). cond (leb k (length out)) (text ++ drop k out) out) e)
 
 -- what is given of a text, said of the pieces it was built from
 pub given-of : (out : List ℕ) {text named after : List ℕ} {r : ℕ} → text ≡ named → Given text out after r → Given named out after r
@@ -88,3 +55,6 @@ used-fits text lent = go (leb (length text) (length lent)) refl
     go : (b : Bool) → leb (length text) (length lent) ≡ b → used text lent ≤ length lent
     go true e = rw e (leb-true (length text) (length lent) e)
     go false e = rw e (omega arith)
+
+pub given-fits : (text lent : List ℕ) {after : List ℕ} {r : ℕ} → Given text lent after r → length after ≡ length lent → r ≤ length after
+given-fits text lent g k = omega (arith, g .0, used-fits text lent, k)

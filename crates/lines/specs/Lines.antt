@@ -1,30 +1,21 @@
 -- Document 01, "The lister, and one sheet": the texts of the lister's lines, for every session and every number.
-use mathlib.Core.Bool.{Bool, false, cond}
-use mathlib.Core.List.{List, [], _∷_, _++_}
-use mathlib.Core.Path.{_≡_}
-use Prim.Native.Nat.{ℕ, zero, suc, _+_, _-_, _/_, _%_, _^_}
-use lib.Dec.{leb, ltb, eqb}
-use lib.IntN.{ℤ, pos, natAbs}
+use mathlib.Core.List.{List, _∷_, _++_, []}
+use Prim.Native.Nat.{ℕ, _/_, _%_, _^_, _-_}
+use lib.IntN.{ℤ, natAbs, pos}
+use mathlib.Core.Bool.{cond, Bool, false}
+use lib.Dec.{eqb, leb}
 use lib.ListN.{length, drop}
+use mathlib.Core.Path.{_≡_}
 use Rattle.laws.specs.Texts.{bytes}
-use Rattle.spell.specs.Spell.{minus}
-use Rattle.sheet.specs.RecordA.{rowsOf, columnsOf}
-use Rattle.sheet.specs.declared.record_a.Header.{Header}
+use Rattle.numerals.specs.Numerals.{spell, numeral, minus}
+use Rattle.frame.specs.Frame.{rowsOf, columnsOf}
+use Rattle.frame.specs.declared.Header.{Header}
 use Rattle.session.specs.declared.Session.{Session}
-use Rattle.load.specs.Deliver.{complete}
-
--- a number's decimal digits, at most k of them: no zeros before them, and zero is 0
-unfoldable pub digits : ℕ → ℕ → List ℕ
-digits zero n = []
-digits (suc k) n = cond (ltb n 10) ((48 + n) ∷ []) (digits k (n / 10) ++ ((48 + n % 10) ∷ []))
-
--- no number of 64 bits has more than 20 digits
-abbrev pub numeral : ℕ → List ℕ
-numeral n = digits 20 n
+use Rattle.session.specs.Session.{complete}
 
 -- hundredths as units with two decimals
 unfoldable pub units : ℕ → List ℕ
-units n = numeral (n / 100) ++ (46 ∷ (48 + n / 10 % 10) ∷ (48 + n % 10) ∷ [])
+units n = numeral (n / 100) ++ (46 ∷ spell 2 (n % 100))
 
 -- and a minus if negative
 abbrev pub hundredths : ℤ → List ℕ
@@ -77,13 +68,9 @@ refusedText kind block byte =
 unfoldable pub unfinishedText : ℕ → List ℕ
 unfinishedText taken = line (bytes "unfinished " ∷ numeral taken ∷ [])
 
--- a sheet is complete once a block 0 was taken and what it asks for is there
-abbrev pub ended : Session → Bool
-ended s = cond (eqb (s .taken) 0) false (complete s)
-
 -- what the end of the input prints
 unfoldable pub endText : Session → List ℕ
-endText s = cond (ended s) (reportText s) (unfinishedText (s .taken))
+endText s = cond (complete s) (reportText s) (unfinishedText (s .taken))
 
 -- ---- a text in lent bytes
 

@@ -1,13 +1,13 @@
 // The lister's lines: document 01, "The lister, and one sheet". A text is built in a scratch array, then given to the lent bytes.
 mod pieces;
 
+use frame::Header;
+use pieces::FEED;
 use session::Session;
-use sheet::record_a;
-use sheet::record_a::Header;
 ghost use mathlib.Core.Path.{_≡_};
 ghost use Prim.Native.Nat.{_+_, _-_, _≤_};
 ghost use lib.ListN.{length};
-ghost use Rattle.lines.specs.Lines.{sheetLine, headLine, postsLine, extreme, rangeLine, endLine, reportText, refusedText, unfinishedText, ended, endText, Given};
+ghost use Rattle.lines.specs.Lines.{sheetLine, headLine, postsLine, extreme, rangeLine, reportText, refusedText, unfinishedText, endText, Given};
 ghost use Rattle.lines.specs.Pieces.{Within};
 
 // A unit and a hundredth in billionths.
@@ -24,15 +24,15 @@ fn sheet_line(text: &mut [u8], rows: u64, columns: u64, x: u64, y: u64, z: u64) 
     let c = pieces::put_number(text, b, b" ", x);
     let d = pieces::put_number(text, c, b" ", y);
     let e = pieces::put_units(text, d, b" ", z);
-    pieces::put_word(text, e, b"\n")
+    numerals::put_byte(text, e, FEED)
 }
 
 fn head_line(text: &mut [u8], h: Header) -> usize
     requires { ⌜ 216 ≤ length (now text) ⌝ }
     ensures { λ r. ⌜ Within 216 (now (text .entry)) 0 (headLine h) (now (text .exit)) r ⌝ }
 {
-    let rows = record_a::row_lattice(h);
-    let columns = record_a::column_lattice(h);
+    let rows = frame::row_lattice(h);
+    let columns = frame::column_lattice(h);
     sheet_line(
         text,
         rows.count,
@@ -75,7 +75,7 @@ fn range_line(text: &mut [u8], at: usize, filled: u64, low: i64, high: i64) -> u
 {
     let a = pieces::put_height(text, at, b"range ", extreme_of(filled, low));
     let b = pieces::put_height(text, a, b" ", extreme_of(filled, high));
-    pieces::put_word(text, b, b"\n")
+    numerals::put_byte(text, b, FEED)
 }
 
 fn report(text: &mut [u8], s: Session) -> usize
@@ -104,7 +104,7 @@ pub fn put_report(s: Session, out: &mut [u8]) -> usize
 {
     let mut text = [0u8; 512];
     let end = report(&mut text, s);
-    pieces::give(&text[0..end], out)
+    numerals::put_word(out, 0, &text[0..end])
 }
 
 pub fn put_refusal(kind: u32, block: u64, byte: u32, out: &mut [u8]) -> usize
@@ -112,7 +112,7 @@ pub fn put_refusal(kind: u32, block: u64, byte: u32, out: &mut [u8]) -> usize
 {
     let mut text = [0u8; 512];
     let end = refusal(&mut text, kind, block, byte);
-    pieces::give(&text[0..end], out)
+    numerals::put_word(out, 0, &text[0..end])
 }
 
 pub fn put_unfinished(taken: u64, out: &mut [u8]) -> usize
@@ -120,23 +120,14 @@ pub fn put_unfinished(taken: u64, out: &mut [u8]) -> usize
 {
     let mut text = [0u8; 512];
     let end = pieces::put_last(&mut text, 0, b"unfinished ", taken);
-    pieces::give(&text[0..end], out)
-}
-
-fn is_ended(s: Session) -> bool
-    ensures { λ r. ⌜ r ≡ ended s ⌝ }
-{
-    if s.taken == 0 {
-        return false;
-    }
-    load::is_complete(s)
+    numerals::put_word(out, 0, &text[0..end])
 }
 
 // What the end of the input prints: the report of a complete sheet, else how many blocks were taken.
 pub fn put_end(s: Session, out: &mut [u8]) -> usize
     ensures { λ r. ⌜ Given (endText s) (now (out .entry)) (now (out .exit)) r ⌝ }
 {
-    if is_ended(s) {
+    if session::is_complete(s) {
         return put_report(s, out);
     }
     put_unfinished(s.taken, out)

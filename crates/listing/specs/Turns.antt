@@ -1,16 +1,16 @@
 -- Document 01, "The lister, and one sheet": what a lister makes of each block of its input, and what it prints at last.
+use Prim.Native.Nat.{ℕ, _≤_, _+_, _^_}
 use mathlib.Core.Bool.{cond}
 use mathlib.Core.List.{List}
-use mathlib.Core.Path.{_≡_}
-use Prim.Native.Nat.{ℕ, _+_, _^_, _≤_}
 use lib.Dec.{eqb}
 use lib.IntN.{ℤ}
 use lib.ListN.{length}
-use Rattle.session.specs.Session.{fresh}
+use mathlib.Core.Path.{_≡_}
 use Rattle.session.specs.declared.Session.{Session}
-use Rattle.load.specs.Deliver.{deliverOf, cellsAfter}
-use Rattle.load.specs.declared.Answer.{Answer}
-use Rattle.load.specs.declared.Answer.the-variants.{Taken, Held, Refused}
+use Rattle.session.specs.Session.{fresh}
+use Rattle.delivery.specs.declared.Answer.{Answer}
+use Rattle.delivery.specs.declared.Answer.the-variants.{Taken, Held, Refused}
+use Rattle.delivery.specs.Deliver.{lend, deliverOf, lentAfter}
 use Rattle.lines.specs.Lines.{refusedText, endText}
 use Rattle.listing.specs.declared.Turn.{Turn}
 
@@ -28,10 +28,10 @@ turnAfter s (Refused kind block byte) = turn s 2 kind block byte
 abbrev pub stepOf : Session → ℕ → List ℕ → List ℤ → Turn
 stepOf s number block grid =
     cond (eqb (length block) 0) (turn s 1 0 0 0)
-    (turnAfter (deliverOf s number block grid .session) (deliverOf s number block grid .answer))
+    (turnAfter (deliverOf s number block (lend grid) .session) (deliverOf s number block (lend grid) .answer))
 
 abbrev pub cellsOf : Session → ℕ → List ℕ → List ℤ → List ℤ
-cellsOf s number block grid = cond (eqb (length block) 0) grid (cellsAfter s number block grid)
+cellsOf s number block grid = cond (eqb (length block) 0) grid (lentAfter s number block (lend grid) .grid)
 
 -- what a turn promises: where the listing stands, and every cell
 abbrev pub Steps : Session → ℕ → List ℕ → List ℤ → List ℤ → Turn → Type 0

@@ -1,14 +1,14 @@
-// What the listers have in common: blocks of standard input, delivered in their order, then what document 01 prints of them.
-use libc::STDIN_FILENO;
-use libc::STDOUT_FILENO;
-use load::Answer;
-use load::Delivered;
+// What the listers have in common: a block of the input delivered, and what document 01 prints at last. They read and write themselves.
+use delivery::Answer;
+use delivery::Delivered;
 use session::Session;
 ghost use mathlib.Core.Path.{_≡_};
 ghost use Rattle.lines.specs.Lines.{Given};
-ghost use Rattle.listing.specs.Turns.{turn, turnAfter, lastText, Steps, Took, Listed, Lists};
+ghost use Rattle.session.specs.Session.{fresh};
+ghost use Rattle.listing.specs.Turns.{turn, turnAfter, lastText, Steps};
 
-const MORE: u8 = 0;
+// The stages of a listing: more may follow, the input is at its end, a block was refused.
+pub const MORE: u8 = 0;
 
 const ENDED: u8 = 1;
 
@@ -33,6 +33,13 @@ fn goes_on(s: Session) -> Turn
         block: 0,
         byte: 0,
     }
+}
+
+// Before the first block.
+pub fn begin() -> Turn
+    ensures { λ r. ⌜ r ≡ turn fresh 0 0 0 0 ⌝ }
+{
+    goes_on(session::new())
 }
 
 fn after(d: Delivered) -> Turn
@@ -70,29 +77,6 @@ pub fn take_block(s: Session, number: u64, block: &[u8], grid: &mut [i32]) -> Tu
     after(delivered)
 }
 
-// "A block is 1,024 bytes": of the stream, whatever pieces a pipe brings.
-fn next_block(s: Session, number: u64, grid: &mut [i32]) -> Turn
-    ensures { λ r. ⌜ Took s number (now (grid .entry)) (now (grid .exit)) r ⌝ }
-{
-    let mut block = [0u8; 1024];
-    let got = io::read_full(STDIN_FILENO, &mut block);
-    take_block(s, number, &block[..got], grid)
-}
-
-// A proved loop has to end, and nothing says that the input does: the block numbers do, where no run comes.
-fn all_blocks(grid: &mut [i32]) -> Turn
-    ensures { λ r. ⌜ Listed (now (grid .entry)) (now (grid .exit)) r ⌝ }
-{
-    let mut t = goes_on(session::new());
-    let mut number = 0u64;
-    while number < u64::MAX && t.stage == MORE {
-        let s = t.session;
-        t = next_block(s, number, grid);
-        number += 1;
-    }
-    t
-}
-
 // The line or lines that end a listing. Answers the bytes used; none, and nothing changed, where they do not fit.
 pub fn put_last(t: Turn, out: &mut [u8]) -> usize
     ensures { λ r. ⌜ Given (lastText t) (now (out .entry)) (now (out .exit)) r ⌝ }
@@ -102,14 +86,4 @@ pub fn put_last(t: Turn, out: &mut [u8]) -> usize
     }
     let s = t.session;
     lines::put_end(s, out)
-}
-
-// The input, one call for each block, the output.
-pub fn list(grid: &mut [i32])
-    ensures { λ _. ⌜ Lists (now (grid .entry)) (now (grid .exit)) ⌝ }
-{
-    let t = all_blocks(grid);
-    let mut out = [0u8; 512];
-    let used = put_last(t, &mut out);
-    io::write_all(STDOUT_FILENO, &out[..used]);
 }

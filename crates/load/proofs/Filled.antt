@@ -1,35 +1,23 @@
 -- A good block's step is the definition's verdict, and its cells are cells of the sheet.
-use mathlib.Core.Bool.{Bool, true, false, cond}
 use mathlib.Core.List.{List}
 use mathlib.Core.Path.{_≡_, refl, sym, _∙_}
-use Prim.Native.Nat.{ℕ, _+_, _*_, _-_, _≤_}
-use native.Mathlib.Nat.{mul-le-mul-right, add-mul}
-use native.Mathlib.Omega.{arith}
-use lib.Dec.{ltb, eqb}
+use Prim.Native.Nat.{ℕ, _+_, _-_, _*_, _≤_}
 use lib.IntN.{ℤ}
 use lib.ListN.{length, take}
-use Rattle.sheet.specs.RecordA.{columnsOf, rowsOf}
-use Rattle.session.specs.Session.{openBlocks}
+use mathlib.Core.Bool.{Bool, true, false, cond}
+use lib.Dec.{eqb, ltb}
+use native.Mathlib.Nat.{mul-le-mul-right, add-mul}
+use native.Mathlib.Omega.{arith}
+use Rattle.frame.specs.Frame.{columnsOf, rowsOf, cellsOf}
 use Rattle.session.specs.declared.Profile.{Profile}
 use Rattle.session.specs.declared.Session.{Session}
-use Rattle.load.specs.Posts.{noTally, tallyAll}
-use Rattle.load.specs.Deliver.{
-  Verdict,
-  filling,
-  filledSession,
-  closedSession,
-  closeFault,
-  closeVerdict,
-  nextCell,
-  sheetTally,
-  profileTally,
-  cellsOf,
-  fills,
-}
-use Rattle.load.specs.Steps.{filledWith, fillStep, closeStep, stepVerdict, Placing}
-use Rattle.load.specs.declared.posts.Tally.{Tally}
+use Rattle.session.specs.Session.{openBlocks}
+use Rattle.ground.specs.Posts.{noTally, tallyAll}
+use Rattle.ground.specs.declared.Tally.{Tally}
+use Rattle.ground.proofs.MergedTallies.{tally-merged}
+use Rattle.delivery.specs.Deliver.{filledSession, sheetTally, profileTally, closedSession, closeFault, closeVerdict, fills, Verdict, filling, nextCell}
+use Rattle.load.specs.Steps.{filledWith, closeStep, stepVerdict, fillStep, Placing}
 use Rattle.load.specs.declared.steps.Step.the-variants.{Wrong, Fills}
-use Rattle.load.proofs.MergedTallies.{tally-merged}
 
 filled-same : (s : Session) (column : ℕ) (p : Profile) (hs : List ℤ)
     → filledSession s column p hs ≡ filledWith s column p (length hs) (tallyAll noTally hs)

@@ -1,37 +1,38 @@
 -- The first tests of a delivery: what each answer of theirs means for the verdict, and what is known past all of them.
-use mathlib.Core.Bool.{Bool, true, false}
 use mathlib.Core.List.{List}
+use Prim.Native.Nat.{ℕ, _≤_}
+use mathlib.Core.Bool.{Bool, true, false, not}
 use mathlib.Core.Path.{_≡_, refl}
-use Prim.Native.Nat.{ℕ}
-use native.Mathlib.Omega.{arith}
-use borrow.Author.Tests.{eqb-true, eqb-false, ltb-false}
-use lib.Dec.{eqb, ltb}
-use lib.IntN.{ℤ}
+use lib.Dec.{eqb, ltb, leb}
 use lib.ListN.{length}
+use native.Mathlib.Omega.{arith}
+use borrow.Author.Tests.{eqb-true, eqb-false, ltb-false, lt-ltb, le-ltb, leb-true, leb-false}
+use Rattle.frame.specs.Frame.{cellsOf}
+use Rattle.frame.specs.declared.Header.{Header}
 use Rattle.sheet.specs.RecordA.{recordA}
-use Rattle.session.specs.Session.{sound}
 use Rattle.session.specs.declared.Session.{Session}
-use Rattle.load.specs.Deliver.{Verdict, again, wrong, beginning, later, complete, cellsOf, verdictOf}
-use Rattle.load.specs.Steps.{gateOf, Due}
+use Rattle.session.specs.Session.{sound, complete}
+use Rattle.delivery.specs.Deliver.{Verdict, Room, tooShort, again, wrong, beginning, later, verdictOf}
 use Rattle.load.specs.declared.steps.Gate.{Gate}
 use Rattle.load.specs.declared.steps.Gate.the-variants.{Stop, Again, Begin, Later}
+use Rattle.load.specs.Steps.{gateOf, Ready}
 use Rattle.load.proofs.Readiness.{ready-of}
 
-abbrev pub byGate : Session → ℕ → List ℕ → ℕ → Gate → Verdict
-byGate s number block cells (Stop kind) = wrong kind number 0
-byGate s number block cells Again = again
-byGate s number block cells Begin = beginning cells (recordA block)
-byGate s number block cells Later = later s number block
+abbrev pub byGate : Session → ℕ → List ℕ → Room → Gate → Verdict
+byGate s number block m (Stop kind) = wrong kind number 0
+byGate s number block m Again = again
+byGate s number block m Begin = beginning m (recordA block)
+byGate s number block m Later = later s number block
 
-pub gate-verdict : (s : Session) (number : ℕ) (block : List ℕ) (cells : ℕ)
-    → byGate s number block cells (gateOf s number (length block) cells) ≡ verdictOf s number block cells
+pub gate-verdict : (s : Session) (number : ℕ) (block : List ℕ) (m : Room)
+    → byGate s number block m (gateOf s number (length block) m) ≡ verdictOf s number block m
 unfolding verdictOf
-gate-verdict s number block cells = go (eqb (length block) 1024) refl (sound s) refl (ltb number (s .taken)) refl (ltb (s .taken) number) refl (eqb number 0) refl (complete s) refl (ltb cells (cellsOf (s .header))) refl
+gate-verdict s number block m = go (eqb (length block) 1024) refl (sound s) refl (ltb number (s .taken)) refl (ltb (s .taken) number) refl (eqb number 0) refl (complete s) refl (tooShort m (s .header)) refl
   where
     go : (a : Bool) → eqb (length block) 1024 ≡ a → (b : Bool) → sound s ≡ b → (c : Bool) → ltb number (s .taken) ≡ c
         → (d : Bool) → ltb (s .taken) number ≡ d → (e : Bool) → eqb number 0 ≡ e → (f : Bool) → complete s ≡ f
-        → (g : Bool) → ltb cells (cellsOf (s .header)) ≡ g
-        → byGate s number block cells (gateOf s number (length block) cells) ≡ verdictOf s number block cells
+        → (g : Bool) → tooShort m (s .header) ≡ g
+        → byGate s number block m (gateOf s number (length block) m) ≡ verdictOf s number block m
     go false p b q c r d t e u f v g w = rw p
     go true p false q c r d t e u f v g w = rw (p, q)
     go true p true q true r d t e u f v g w = rw (p, q, r)
@@ -42,13 +43,18 @@ gate-verdict s number block cells = go (eqb (length block) 1024) refl (sound s) 
     go true p true q false r false t false u false v false w = rw (p, q, r, t, u, v, w)
 
 -- past all of them the delivery is the next one of a sound session, and the grid is long enough
-pub gate-due : (s : Session) (number : ℕ) (block : List ℕ) (grid : List ℤ) → gateOf s number (length block) (length grid) ≡ Later
-    → Due s number block grid
-gate-due s number block grid z = go (eqb (length block) 1024) refl (sound s) refl (ltb number (s .taken)) refl (ltb (s .taken) number) refl (eqb number 0) refl (complete s) refl (ltb (length grid) (cellsOf (s .header))) refl
+pub record Due (s : Session) (number : ℕ) (block : List ℕ) (m : Room) : Type 0 where
+  pub ready : Ready s
+  pub taken-is : number ≡ s .taken
+  pub long : length block ≡ 1024
+  pub cells : cellsOf (s .header) ≤ m .cells
+
+pub gate-due : (s : Session) (number : ℕ) (block : List ℕ) (m : Room) → gateOf s number (length block) m ≡ Later → Due s number block m
+gate-due s number block m z = go (eqb (length block) 1024) refl (sound s) refl (ltb number (s .taken)) refl (ltb (s .taken) number) refl (eqb number 0) refl (complete s) refl (tooShort m (s .header)) refl
   where
     go : (a : Bool) → eqb (length block) 1024 ≡ a → (b : Bool) → sound s ≡ b → (c : Bool) → ltb number (s .taken) ≡ c
         → (d : Bool) → ltb (s .taken) number ≡ d → (e : Bool) → eqb number 0 ≡ e → (f : Bool) → complete s ≡ f
-        → (g : Bool) → ltb (length grid) (cellsOf (s .header)) ≡ g → Due s number block grid
+        → (g : Bool) → tooShort m (s .header) ≡ g → Due s number block m
     go false p b q c r d t e u f v g w = let x : Stop 1 ≡ Later = rw p at z in let y : _≡_ {A = ℕ} 0 1 = cc in absurd (omega arith)
     go true p false q c r d t e u f v g w = let x : Stop 2 ≡ Later = rw (p, q) at z in let y : _≡_ {A = ℕ} 0 1 = cc in absurd (omega arith)
     go true p true q true r d t e u f v g w = let x : Again ≡ Later = rw (p, q, r) at z in let y : _≡_ {A = ℕ} 0 1 = cc in absurd (omega arith)
@@ -63,5 +69,10 @@ gate-due s number block grid z = go (eqb (length block) 1024) refl (sound s) ref
           ready = ready-of s q (omega arith);
           taken-is = n;
           long = eqb-true (length block) 1024 p;
-          cells = ltb-false (length grid) (cellsOf (s .header)) w;
+          cells = ltb-false (m .cells) (cellsOf (s .header)) w;
         }
+
+-- room, or too little of it
+pub enough : (h : Header) (cells : ℕ) (t : Bool) → leb (cellsOf h) cells ≡ t → ltb cells (cellsOf h) ≡ not t
+enough h cells true e = le-ltb cells (cellsOf h) (leb-true (cellsOf h) cells e)
+enough h cells false e = lt-ltb cells (cellsOf h) (leb-false (cellsOf h) cells e)

@@ -1,28 +1,30 @@
 -- A block of a profile judged: a fault is its refusal, and without one its step is the definition's verdict.
-use mathlib.Core.Bool.{Bool, true, false}
 use mathlib.Core.List.{List, []}
-use mathlib.Core.Path.{_≡_, refl, sym, _∙_, ap, subst⁻¹}
-use Prim.Native.Nat.{ℕ, _+_, _-_, _≤_, _<_}
+use mathlib.Core.Path.{_≡_, sym, _∙_, ap, refl, subst⁻¹}
+use Prim.Native.Nat.{ℕ, _≤_, _<_, _+_}
 use native.Mathlib.Omega.{arith}
-use borrow.Author.Tests.{eq-eqb, ne-eqb}
-use lib.Dec.{eqb}
 use lib.IntN.{ℤ, natAbs}
 use lib.ListN.{length}
-use Rattle.sheet.specs.RecordA.{fault}
-use Rattle.sheet.specs.declared.record_a.Fault.{Fault}
+use mathlib.Core.Bool.{true, false, Bool}
+use borrow.Author.Tests.{eq-eqb, ne-eqb}
+use lib.Dec.{eqb}
+use Rattle.field.specs.Field.{fault}
+use Rattle.field.specs.declared.Fault.{Fault}
+use Rattle.frame.specs.Frame.{zOf, cellsOf}
 use Rattle.profile.specs.RecordC.{recordC}
-use Rattle.session.specs.declared.Profile.{Profile}
 use Rattle.session.specs.declared.Session.{Session}
-use Rattle.load.specs.Posts.{noTally, tallyAll, heights, postsOf}
-use Rattle.load.specs.Deliver.{Verdict, wrong, fills, unless, finishedSession, filling, heightsHere, zOf, cellsOf, nextCell}
-use Rattle.load.specs.Steps.{fillStep, finishStep, stepVerdict, Filling, Placing, Ready, BlockScanned, Stepped}
-use Rattle.load.specs.declared.posts.Scan.{Scan}
-use Rattle.load.specs.declared.posts.Tally.{Tally}
-use Rattle.load.specs.declared.steps.Step.{Step}
+use Rattle.session.specs.declared.Profile.{Profile}
+use Rattle.ground.specs.declared.Tally.{Tally}
+use Rattle.ground.specs.Posts.{noTally, tallyAll, heights, postsOf}
+use Rattle.ground.proofs.PostsRead.{scan-few, scan-fair, posts-length}
+use Rattle.ground.proofs.Tallies.{none-fair}
+use Rattle.ground.proofs.Heights.{heights-length}
+use Rattle.posts.specs.Steps.{BlockScanned}
+use Rattle.posts.specs.declared.Scan.{Scan}
+use Rattle.delivery.specs.Deliver.{Verdict, wrong, unless, filling, heightsHere, nextCell, fills, finishedSession}
+use Rattle.load.specs.Steps.{Stepped, Ready, fillStep, stepVerdict, Filling, Placing, finishStep}
 use Rattle.load.specs.declared.steps.Step.the-variants.{Wrong, Fills}
-use Rattle.load.proofs.Heights.{heights-length}
-use Rattle.load.proofs.Scans.{posts-length, scan-few, scan-fair}
-use Rattle.load.proofs.Tallies.{none-fair}
+use Rattle.load.specs.declared.steps.Step.{Step}
 use Rattle.load.proofs.Filled.{fill-verdict, fill-at, cell-room}
 
 -- a refusal fills no cell
@@ -49,8 +51,6 @@ module _ (f : Fault) (number : ℕ) (v : Verdict) (kind byte : ℕ) (is : fault 
 -- the tally of a block scanned without fault
 pub record SmallTally (n : ℕ) (u : Tally) : Type 0 where
   pub count : u .filled ≤ n
-  pub low-size : 0 < u .filled → natAbs (u .low) ≤ 4276700
-  pub high-size : 0 < u .filled → natAbs (u .high) ≤ 4276700
 
 pub scanned-tally : (s : Session) (datum : ℤ) (byte n : ℕ) (block : List ℕ) (before after : List ℤ) (r : Scan)
     → BlockScanned block byte n (zOf (s .header)) datum before after r → r .kind ≡ 0 → Ready s → natAbs datum ≤ 1000000
@@ -61,8 +61,6 @@ scanned-tally s datum byte n block before after r sc e ready most =
     let few : tallyAll noTally hs .filled ≤ 0 + n = scan-few n byte block (zOf (s .header)) datum noTally in
     record {
       count = rw (sc .tally-is e) (omega arith);
-      low-size = rw (sc .tally-is e) (λ h. fair h .low-most);
-      high-size = rw (sc .tally-is e) (λ h. fair h .high-most);
     }
 
 -- what is known of a profile whose next n posts were scanned without fault
@@ -72,8 +70,6 @@ pub record Scannable (s : Session) (p : Profile) (n : ℕ) : Type 0 where
   pub read-most : p .read + n ≤ p .posts
   pub posts-most : p .posts ≤ 2048
   pub filled-most : p .filled ≤ p .read
-  pub profile-low : 0 < p .filled → natAbs (p .low) ≤ 4276700
-  pub profile-high : 0 < p .filled → natAbs (p .high) ≤ 4276700
 
 module _ (s : Session) (p : Profile) (byte n : ℕ) (block : List ℕ) (before after : List ℤ) (r : Scan)
     (sc : BlockScanned block byte n (zOf (s .header)) (p .datum) before after r) (e : r .kind ≡ 0) (k : Scannable s p n) where
@@ -83,13 +79,9 @@ module _ (s : Session) (p : Profile) (byte n : ℕ) (block : List ℕ) (before a
       record {
         ready = k .ready;
         count = f .count;
-        low-size = f .low-size;
-        high-size = f .high-size;
         read-most = k .read-most;
         posts-most = k .posts-most;
         filled-most = k .filled-most;
-        profile-low = k .profile-low;
-        profile-high = k .profile-high;
       }
 
   module _ (number column : ℕ) (g : Placing s number column p) (few : n ≤ 170) (st : Step)

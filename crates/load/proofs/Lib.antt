@@ -1,16 +1,7 @@
-pub mod Heights
-pub mod Tallies
-pub mod Scans
-pub mod Cells
-pub mod Extremes
 pub mod Merging
-pub mod MergedTallies
-pub mod BlockScans
 pub mod Filled
 pub mod Judged
 pub mod Placed
 pub mod Readiness
 pub mod Gates
 pub mod Answers
-pub mod SoundOut
-pub mod BlockCounts

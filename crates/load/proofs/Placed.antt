@@ -1,40 +1,23 @@
 -- A profile that opens: what its place gives the code, and the order of its last rules.
-use mathlib.Core.Bool.{Bool, true, false}
-use mathlib.Core.List.{List}
+use mathlib.Core.Bool.{false, Bool, true}
 use mathlib.Core.Path.{_≡_, refl, sym, _∙_, ap, subst⁻¹}
-use Prim.Native.Nat.{ℕ, _+_, _-_, _≤_}
+use mathlib.Core.List.{List}
+use Prim.Native.Nat.{ℕ, _≤_}
 use native.Mathlib.Omega.{arith}
-use borrow.Author.Tests.{leb-true, eqb-false}
-use lib.Dec.{eqb}
 use lib.IntN.{ℤ, natAbs}
-use Rattle.laws.proofs.Tests.{clash}
-use Rattle.sheet.specs.RecordA.{rowsOf, columnsOf}
-use Rattle.sheet.specs.declared.lattice.Place.{Place}
-use Rattle.sheet.specs.declared.lattice.Place.the-variants.{On, Off}
+use Rattle.frame.specs.Frame.{zOf}
 use Rattle.profile.specs.declared.record_b.Head.{Head}
 use Rattle.session.specs.Session.{busy, openBlocks}
 use Rattle.session.specs.declared.Session.{Session}
-use Rattle.load.specs.Deliver.{columnFits, columnPlace, rowFits, rowPlace, columnFrom, firstColumn, placeNumber, opened, placed, filling, heightsHere, zOf}
-use Rattle.load.specs.Steps.{Filling, Placing, Placeable, Ready, BlockScanned, Stepped, fillStep, placeStep}
-use Rattle.load.specs.declared.posts.Scan.{Scan}
-use Rattle.load.specs.declared.posts.Tally.{Tally}
+use Rattle.ground.specs.declared.Tally.{Tally}
+use Rattle.posts.specs.Steps.{BlockScanned}
+use Rattle.posts.specs.declared.Scan.{Scan}
+use Rattle.delivery.specs.Deliver.{columnFits, columnPlace, rowFits, rowPlace, firstColumn, opened, placed, filling, heightsHere}
+use Rattle.delivery.proofs.Placed.{row-room, column-room}
+use Rattle.load.specs.Steps.{Filling, Placing, Placeable, Stepped, fillStep, placeStep}
 use Rattle.load.specs.declared.steps.Step.{Step}
 use Rattle.load.specs.declared.steps.Step.the-variants.{Wrong}
 use Rattle.load.proofs.Judged.{refused-step, filled-step}
-
-pub row-room : (s : Session) (posts : ℕ) (p : Place) → rowFits s posts p ≡ true → placeNumber p + posts ≤ rowsOf (s .header)
-row-room s posts (On r) t = leb-true (r + posts) (rowsOf (s .header)) t
-row-room s posts Off t = clash (sym t)
-
-pub column-room : (s : Session) (p : Place) → Ready s → columnFits s p ≡ true → columnFrom s p + s .header .profiles ≤ columnsOf (s .header)
-column-room s Off q t = clash (sym t)
-column-room s (On c) q t = go (eqb (s .closed) 0) refl
-  where
-    go : (b : Bool) → eqb (s .closed) 0 ≡ b → columnFrom s (On c) + s .header .profiles ≤ columnsOf (s .header)
-    go true e = rw e (leb-true (c + s .header .profiles) (columnsOf (s .header)) (rw e at t))
-    go false e =
-        let n : s .closed ≡ 0 → ⊥ = eqb-false (s .closed) 0 e in
-        rw e (q .column-fits (omega arith))
 
 pub no-blocks : (s : Session) → busy s ≡ false → openBlocks s ≡ 0
 no-blocks s e = rw e
@@ -45,13 +28,9 @@ module _ (s : Session) (number : ℕ) (h : Head) (n : ℕ) (u : Tally) (k : Plac
       record {
         ready = k .ready;
         count = k .count;
-        low-size = k .low-size;
-        high-size = k .high-size;
         read-most = omega (arith, k .within);
         posts-most = k .posts-most;
         filled-most = omega arith;
-        profile-low = λ z. absurd (omega arith);
-        profile-high = λ z. absurd (omega arith);
       }
 
   pub opened-placing : columnFits s (columnPlace s h) ≡ true → rowFits s (h .posts) (rowPlace s h) ≡ true
@@ -59,7 +38,7 @@ module _ (s : Session) (number : ℕ) (h : Head) (n : ℕ) (u : Tally) (k : Plac
   opened-placing c r =
       record {
         taken-is = k .taken-is;
-        column-room = column-room s (columnPlace s h) (k .ready) c;
+        column-room = column-room s (columnPlace s h) (k .ready .column-fits) c;
         not-last = k .not-last;
         row-room = row-room s (h .posts) (rowPlace s h) r;
         blocks = omega (arith, no-blocks s (k .idle));
@@ -89,8 +68,6 @@ module _ (s : Session) (number : ℕ) (h : Head) (n : ℕ) (u : Tally) (k : Plac
               read-most = omega (arith, k .within);
               posts-most = k .posts-most;
               filled-most = omega arith;
-              profile-low = λ z. absurd (omega arith);
-              profile-high = λ z. absurd (omega arith);
             })
             number (firstColumn s h) (opened-placing p q) few st
             (is ∙ rw (p, q) (ap (fillStep s number (firstColumn s h) (opened s h) n) (sym tally)))

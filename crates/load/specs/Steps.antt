@@ -1,51 +1,44 @@
--- How the code takes a delivery apart: contracts of private functions. The public promise cites `deliverOf` and `cellsAfter` alone.
-use mathlib.Core.Bool.{true, false, cond, not}
+-- How the code takes a delivery apart: contracts of private functions. The public promise cites `deliverOf` and `lentAfter` alone.
 use mathlib.Core.List.{List}
 use mathlib.Core.Path.{_≡_}
-use Prim.Native.Nat.{ℕ, _+_, _-_, _≤_, _<_}
 use lib.IntN.{ℤ, natAbs}
+use mathlib.Core.Bool.{cond, not, true, false}
+use Prim.Native.Nat.{ℕ, _+_, _-_, _≤_, _<_}
 use lib.Dec.{ltb, eqb}
-use lib.ListN.{length, take}
-use Rattle.sheet.specs.RecordA.{columnsOf, rowsOf, lesser, greater, fault}
-use Rattle.profile.specs.RecordC.{recordC}
+use lib.ListN.{take, length}
+use Rattle.frame.specs.Frame.{cellsOf, columnsOf, rowsOf, zOf}
 use Rattle.profile.specs.declared.record_b.Head.{Head}
-use Rattle.session.specs.Session.{sound, busy, openBlocks}
-use Rattle.session.specs.declared.Profile.{Profile}
+use Rattle.profile.specs.RecordC.{recordC}
 use Rattle.session.specs.declared.Session.{Session}
-use Rattle.load.specs.Deliver.{Verdict, wrong, fills, answerOf, cellsBy, cellsOf, zOf, complete, blockFault, columnFits, columnPlace, rowFits, rowPlace, firstColumn, opened, closeFault, closedSession, finishedSession, sheetTally, profileTally, nextCell}
-use Rattle.load.specs.Posts.{postsFault, postsOf, heights, tallyAll, noTally}
-use Rattle.load.specs.declared.Delivered.{Delivered}
-use Rattle.load.specs.declared.posts.Scan.{Scan}
-use Rattle.load.specs.declared.posts.Tally.{Tally}
+use Rattle.session.specs.Session.{sound, complete, openBlocks, busy}
+use Rattle.session.specs.declared.Profile.{Profile}
+use Rattle.ground.specs.declared.Tally.{Tally}
+use Rattle.ground.specs.Posts.{merged}
+use Rattle.delivery.specs.Deliver.{Verdict, Room, lend, tooShort, answerOf, lentBy, again, begins, profileTally, sheetTally, closeFault, closedSession, nextCell, wrong, fills, columnFits, columnPlace, rowFits, rowPlace, firstColumn, opened, finishedSession}
+use Rattle.delivery.specs.declared.Delivered.{Delivered}
+use Rattle.frame.specs.declared.Header.{Header}
+use Rattle.sheet.specs.declared.Checked.{Checked}
+use Rattle.sheet.specs.declared.Checked.the-variants.{Sheet, Refused as NoSheet}
+use Rattle.load.specs.declared.steps.Judged.{Judged}
+use Rattle.load.specs.declared.steps.Judged.the-variants.{Held, Refused, Begins, Fills as Filling·later}
 use Rattle.load.specs.declared.steps.Gate.{Gate}
 use Rattle.load.specs.declared.steps.Gate.the-variants.{Stop, Again, Begin, Later}
 use Rattle.load.specs.declared.steps.Step.{Step}
 use Rattle.load.specs.declared.steps.Step.the-variants.{Wrong, Fills}
 
--- what is answered and what the cells become are those of a verdict
-pub record Meets (s : Session) (v : Verdict) (before after : List ℤ) (r : Delivered) : Type 0 where
-  pub answer-is : r ≡ answerOf s v
-  pub cells-are : after ≡ cellsBy before v
+-- the lengths of what is lent
+abbrev pub room : ℕ → Room
+room cells = record { cells = cells }
 
 -- the first tests, in their order
-abbrev pub gateOf : Session → ℕ → ℕ → ℕ → Gate
-gateOf s number bytes cells =
+abbrev pub gateOf : Session → ℕ → ℕ → Room → Gate
+gateOf s number bytes r =
     cond (not (eqb bytes 1024)) (Stop 1)
     (cond (not (sound s)) (Stop 2)
     (cond (ltb number (s .taken)) Again
     (cond (ltb (s .taken) number) (Stop 3)
     (cond (eqb number 0) Begin
-    (cond (complete s) (Stop 4) (cond (ltb cells (cellsOf (s .header))) (Stop 12) Later))))))
-
--- two tallies, one behind the other
-abbrev pub merged : Tally → Tally → Tally
-merged t u =
-    cond (eqb (u .filled) 0) t
-    (record {
-      filled = t .filled + u .filled;
-      low = cond (eqb (t .filled) 0) (u .low) (lesser (t .low) (u .low));
-      high = cond (eqb (t .filled) 0) (u .high) (greater (t .high) (u .high));
-    })
+    (cond (complete s) (Stop 4) (cond (tooShort r (s .header)) (Stop 12) Later))))))
 
 -- the open profile and the session with n posts more, of tally u
 abbrev pub readWith : Profile → ℕ → Tally → Profile
@@ -105,8 +98,6 @@ pub record OpenProfile (s : Session) : Type 0 where
   pub filled-most : s .profile .filled ≤ s .profile .read
   pub column-room : s .column + s .header .profiles ≤ columnsOf (s .header)
   pub not-last : s .closed < s .header .profiles
-  pub low-size : 0 < s .profile .filled → natAbs (s .profile .low) ≤ 4276700
-  pub high-size : 0 < s .profile .filled → natAbs (s .profile .high) ≤ 4276700
 
 pub record Ready (s : Session) : Type 0 where
   pub columns-most : columnsOf (s .header) ≤ 2048
@@ -119,29 +110,15 @@ pub record Ready (s : Session) : Type 0 where
   pub posts-most : s .posts ≤ 4194304
   pub filled-most : s .filled ≤ s .posts
   pub blocks-most : openBlocks s ≤ s .taken
-  pub low-size : 0 < s .filled → natAbs (s .low) ≤ 4276700
-  pub high-size : 0 < s .filled → natAbs (s .high) ≤ 4276700
   pub profile-is : busy s ≡ true → OpenProfile s
 
 -- what a block's n posts, of tally u, may add to a session and to a profile of it
 pub record Filling (s : Session) (p : Profile) (n : ℕ) (u : Tally) : Type 0 where
   pub ready : Ready s
   pub count : u .filled ≤ n
-  pub low-size : 0 < u .filled → natAbs (u .low) ≤ 4276700
-  pub high-size : 0 < u .filled → natAbs (u .high) ≤ 4276700
   pub read-most : p .read + n ≤ p .posts
   pub posts-most : p .posts ≤ 2048
   pub filled-most : p .filled ≤ p .read
-  pub profile-low : 0 < p .filled → natAbs (p .low) ≤ 4276700
-  pub profile-high : 0 < p .filled → natAbs (p .high) ≤ 4276700
-
--- a session whose extremes can be compared, and which has room for a profile more
-pub record Extremes (s : Session) : Type 0 where
-  pub closed-most : s .closed < 2048
-  pub low-size : 0 < s .filled → natAbs (s .low) ≤ 4276700
-  pub high-size : 0 < s .filled → natAbs (s .high) ≤ 4276700
-  pub profile-low : 0 < s .profile .filled → natAbs (s .profile .low) ≤ 4276700
-  pub profile-high : 0 < s .profile .filled → natAbs (s .profile .high) ≤ 4276700
 
 -- where profile p of a session may stand
 pub record Placing (s : Session) (number column : ℕ) (p : Profile) : Type 0 where
@@ -150,14 +127,6 @@ pub record Placing (s : Session) (number column : ℕ) (p : Profile) : Type 0 wh
   pub not-last : s .closed < s .header .profiles
   pub row-room : p .row + p .posts ≤ rowsOf (s .header)
   pub blocks : openBlocks s ≤ number
-
--- a block scanned whole: its first fault; where there is none the heights at the front of the scratch, and their tally
-pub record BlockScanned (block : List ℕ) (byte n z : ℕ) (datum : ℤ) (before after : List ℤ) (r : Scan) : Type 0 where
-  pub fault-is : fault (r .kind) (r .byte) ≡ blockFault byte n block
-  pub kept : length after ≡ length before
-  pub heights-are : r .kind ≡ 0 → take n after ≡ heights z datum (postsOf n byte block)
-  pub tally-is : r .kind ≡ 0 → r .tally ≡ tallyAll noTally (heights z datum (postsOf n byte block))
-  pub posts-fine : r .kind ≡ 0 → postsFault n byte block .kind ≡ 0
 
 -- a later block judged: its verdict, and where it fills cells, that they are in the scratch and in the sheet
 pub record Stepped (s : Session) (v : Verdict) (before after : List ℤ) (r : Step) : Type 0 where
@@ -200,8 +169,6 @@ pub record Placeable (s : Session) (number : ℕ) (h : Head) (n : ℕ) (u : Tall
   pub posts-most : h .posts ≤ 2048
   pub within : n ≤ h .posts
   pub count : u .filled ≤ n
-  pub low-size : 0 < u .filled → natAbs (u .low) ≤ 4276700
-  pub high-size : 0 < u .filled → natAbs (u .high) ≤ 4276700
 
 -- a record C taken, or refused
 abbrev pub finishStep : Session → ℕ → List ℕ → Step
@@ -215,9 +182,36 @@ pub record Next (s : Session) (number : ℕ) (block : List ℕ) (scratch : List 
   pub long : length block ≡ 1024
   pub room : length scratch ≡ 170
 
--- a later delivery with the grid that it may fill
-pub record Due (s : Session) (number : ℕ) (block : List ℕ) (grid : List ℤ) : Type 0 where
-  pub ready : Ready s
-  pub taken-is : number ≡ s .taken
-  pub long : length block ≡ 1024
-  pub cells : cellsOf (s .header) ≤ length grid
+-- ---- a delivery judged, and done
+
+-- block 0, where enough is lent
+abbrev pub firstJudged : Room → Checked → Judged
+firstJudged r (NoSheet kind byte) = Refused kind 0 byte
+firstJudged r (Sheet h) = cond (tooShort r h) (Refused 12 0 0) (Begins h)
+
+abbrev pub laterJudged : Step → Judged
+laterJudged (Wrong kind block byte) = Refused kind block byte
+laterJudged (Fills after at n) = Filling·later after at n
+
+-- its verdict, with a later block's heights in the scratch
+abbrev pub judgedVerdict : List ℤ → Judged → Verdict
+judgedVerdict scratch Held = again
+judgedVerdict scratch (Refused kind block byte) = wrong kind block byte
+judgedVerdict scratch (Begins h) = begins h
+judgedVerdict scratch (Filling·later after at n) = fills after at (take n scratch)
+
+-- the verdict, and that what it writes is lent
+pub record Judging (v : Verdict) (r : Room) (scratch : List ℤ) (j : Judged) : Type 0 where
+  pub verdict-is : judgedVerdict scratch j ≡ v
+  pub kept : length scratch ≡ 170
+  pub fills : (next : Session) (at n : ℕ) → j ≡ Filling·later next at n → (n ≤ 170) × (at + n ≤ r .cells)
+  pub begins : (h : Header) → j ≡ Begins h → (columnsOf h ≤ 2048) × ((rowsOf h ≤ 2048) × (cellsOf h ≤ r .cells))
+
+-- what can be done with these slices
+pub record Doable (j : Judged) (scratch grid : List ℤ) : Type 0 where
+  pub fills : (next : Session) (at n : ℕ) → j ≡ Filling·later next at n → (n ≤ length scratch) × (at + n ≤ length grid)
+  pub begins : (h : Header) → j ≡ Begins h → (columnsOf h ≤ 2048) × ((rowsOf h ≤ 2048) × (cellsOf h ≤ length grid))
+
+pub record Does (s : Session) (j : Judged) (scratch before after : List ℤ) (r : Delivered) : Type 0 where
+  pub answer-is : r ≡ answerOf s (judgedVerdict scratch j)
+  pub lent-is : after ≡ lentBy (lend before) (judgedVerdict scratch j) .grid

@@ -1,58 +1,35 @@
-// Blocks by number into a lent grid: document 01, "What a delivery answers".
+// Blocks by number into a lent grid: document 01, "What a delivery answers". A delivery is judged, which reads, then applied, which writes.
 mod blocks;
-mod posts;
 mod steps;
 
+use delivery::Answer;
+use delivery::Delivered;
+use frame::Header;
 use session::Session;
-use sheet::record_a;
-use sheet::record_a::Checked;
-use sheet::record_a::Header;
+use sheet::Checked;
 use steps::Gate;
+use steps::Judged;
 use steps::Step;
 ghost use mathlib.Core.Path.{_≡_};
 ghost use Prim.Native.Nat.{_≤_};
 ghost use lib.ListN.{length};
-ghost use Rattle.sheet.specs.RecordA.{recordA, columnsOf, rowsOf};
-ghost use Rattle.load.specs.Deliver.{deliverOf, cellsAfter, cellsOf, begun, beginning, later, complete};
-ghost use Rattle.load.specs.Steps.{Meets, Due, gateOf};
-
-// What a delivery answers; a refusal has document 01's kind, the block and the byte.
-pub enum Answer {
-    Taken,
-    Held,
-    Refused(u32, u64, u32),
-}
-
-pub struct Delivered {
-    pub answer: Answer,
-    pub session: Session,
-}
+ghost use Rattle.sheet.specs.RecordA.{recordA};
+ghost use Rattle.frame.specs.Frame.{columnsOf, rowsOf, cellsOf};
+ghost use Rattle.delivery.specs.Deliver.{lend, deliverOf, lentAfter, verdictOf};
+ghost use Rattle.load.specs.Steps.{room, gateOf, firstJudged, laterJudged, Judging, Doable, Does};
 
 fn cells_of(h: Header) -> u64
     requires { ⌜ (columnsOf h ≤ 2048) × (rowsOf h ≤ 2048) ⌝ }
     ensures { λ r. ⌜ r ≡ cellsOf h ⌝ }
 {
-    let columns = record_a::column_lattice(h);
-    let rows = record_a::row_lattice(h);
+    let columns = frame::column_lattice(h);
+    let rows = frame::row_lattice(h);
     columns.count * rows.count
-}
-
-pub fn is_complete(s: Session) -> bool
-    ensures { λ r. ⌜ r ≡ complete s ⌝ }
-{
-    let h = s.header;
-    if s.closed != h.profiles {
-        return false;
-    }
-    if h.accuracy == 1 {
-        return s.finished == 1;
-    }
-    true
 }
 
 // The first tests, in document 01's order.
 fn gate(s: Session, number: u64, bytes: usize, cells: usize) -> Gate
-    ensures { λ r. ⌜ r ≡ gateOf s number bytes cells ⌝ }
+    ensures { λ r. ⌜ r ≡ gateOf s number bytes (room cells) ⌝ }
 {
     if bytes != 1024 {
         return Gate::Stop(1);
@@ -69,66 +46,78 @@ fn gate(s: Session, number: u64, bytes: usize, cells: usize) -> Gate
     if number == 0 {
         return Gate::Begin;
     }
-    if is_complete(s) {
+    if session::is_complete(s) {
         return Gate::Stop(4);
     }
     let h = s.header;
-    if (cells as u64) < cells_of(h) {
+    if !frame::has_room(h, cells as u64) {
         return Gate::Stop(12);
     }
     Gate::Later
 }
 
-fn begun_session(header: Header) -> Session
-    ensures { λ r. ⌜ r ≡ begun header ⌝ }
+// Block 0: its header, where the cells lent are enough.
+fn judge_first(block: &[u8], cells: usize) -> Judged
+    ensures { λ r. ⌜ r ≡ firstJudged (room cells) (recordA (now (block .entry))) ⌝ }
 {
-    let mut s = session::new();
-    s.header = header;
-    s.taken = 1;
-    s
-}
-
-// Block 0: the header, then its cells made void.
-fn begin(s: Session, block: &[u8], grid: &mut [i32]) -> Delivered
-    ensures { λ r. ⌜ Meets s (beginning (length (now (grid .entry))) (recordA (now (block .entry)))) (now (grid .entry)) (now (grid .exit)) r ⌝ }
-{
-    let checked = record_a::check_record_a(block);
+    let checked = sheet::check_record_a(block);
     match checked {
-        Checked::Refused(kind, byte) => Delivered {
-            answer: Answer::Refused(kind, 0, byte),
-            session: s,
-        },
+        Checked::Refused(kind, byte) => Judged::Refused(kind, 0, byte),
         Checked::Sheet(h) => {
-            let cells = cells_of(h);
-            if (grid.len() as u64) < cells {
-                return Delivered {
-                    answer: Answer::Refused(12, 0, 0),
-                    session: s,
-                };
+            if frame::has_room(h, cells as u64) {
+                return Judged::Begins(h);
             }
-            posts::void_cells(grid, cells as usize);
-            Delivered {
-                answer: Answer::Taken,
-                session: begun_session(h),
-            }
+            Judged::Refused(12, 0, 0)
         }
     }
 }
 
-// A later block: judged whole, then its cells filled.
-fn proceed(s: Session, number: u64, block: &[u8], grid: &mut [i32]) -> Delivered
-    requires { ⌜ Due s number (now block) (now grid) ⌝ }
-    ensures { λ r. ⌜ Meets s (later s number (now (block .entry))) (now (grid .entry)) (now (grid .exit)) r ⌝ }
+fn judge_later(step: Step) -> Judged
+    ensures { λ r. ⌜ r ≡ laterJudged step ⌝ }
 {
-    let mut scratch = [0i32; 170];
-    let step = blocks::later_block(s, number, block, &mut scratch);
     match step {
-        Step::Wrong(kind, at, byte) => Delivered {
-            answer: Answer::Refused(kind, at, byte),
+        Step::Wrong(kind, block, byte) => Judged::Refused(kind, block, byte),
+        Step::Fills(after, at, n) => Judged::Fills(after, at, n),
+    }
+}
+
+// A delivery judged whole. Of what is lent only the lengths are asked; a later block's heights stand in the scratch.
+fn judge(s: Session, number: u64, block: &[u8], cells: usize, scratch: &mut [i32]) -> Judged
+    requires { ⌜ length (now scratch) ≡ 170 ⌝ }
+    ensures { λ r. ⌜ Judging (verdictOf s number (now (block .entry)) (room cells)) (room cells) (now (scratch .exit)) r ⌝ }
+{
+    let g = gate(s, number, block.len(), cells);
+    match g {
+        Gate::Stop(kind) => Judged::Refused(kind, number, 0),
+        Gate::Again => Judged::Held,
+        Gate::Begin => judge_first(block, cells),
+        Gate::Later => judge_later(blocks::later_block(s, number, block, scratch)),
+    }
+}
+
+// What was judged, done: only here is what is lent written.
+fn apply(s: Session, judged: Judged, scratch: &[i32], grid: &mut [i32]) -> Delivered
+    requires { ⌜ Doable judged (now scratch) (now grid) ⌝ }
+    ensures { λ r. ⌜ Does s judged (now (scratch .entry)) (now (grid .entry)) (now (grid .exit)) r ⌝ }
+{
+    match judged {
+        Judged::Held => Delivered {
+            answer: Answer::Held,
             session: s,
         },
-        Step::Fills(after, at, n) => {
-            posts::place(grid, at as usize, &scratch, n as usize);
+        Judged::Refused(kind, block, byte) => Delivered {
+            answer: Answer::Refused(kind, block, byte),
+            session: s,
+        },
+        Judged::Begins(h) => {
+            posts::void_cells(grid, cells_of(h) as usize);
+            Delivered {
+                answer: Answer::Taken,
+                session: session::begun(h),
+            }
+        }
+        Judged::Fills(after, at, n) => {
+            posts::place(grid, at as usize, scratch, n as usize);
             Delivered {
                 answer: Answer::Taken,
                 session: after,
@@ -139,19 +128,9 @@ fn proceed(s: Session, number: u64, block: &[u8], grid: &mut [i32]) -> Delivered
 
 // One delivery: any session, number, bytes and grid are answered; a refused or held block changes nothing.
 pub fn deliver(s: Session, number: u64, block: &[u8], grid: &mut [i32]) -> Delivered
-    ensures { λ r. ⌜ (r ≡ deliverOf s number (now (block .entry)) (now (grid .entry))) × (now (grid .exit) ≡ cellsAfter s number (now (block .entry)) (now (grid .entry))) ⌝ }
+    ensures { λ r. ⌜ (r ≡ deliverOf s number (now (block .entry)) (lend (now (grid .entry)))) × (now (grid .exit) ≡ lentAfter s number (now (block .entry)) (lend (now (grid .entry))) .grid) ⌝ }
 {
-    let g = gate(s, number, block.len(), grid.len());
-    match g {
-        Gate::Stop(kind) => Delivered {
-            answer: Answer::Refused(kind, number, 0),
-            session: s,
-        },
-        Gate::Again => Delivered {
-            answer: Answer::Held,
-            session: s,
-        },
-        Gate::Begin => begin(s, block, grid),
-        Gate::Later => proceed(s, number, block, grid),
-    }
+    let mut scratch = [0i32; 170];
+    let judged = judge(s, number, block, grid.len(), &mut scratch);
+    apply(s, judged, &scratch, grid)
 }

@@ -1,16 +1,14 @@
 // The parts of a delivery: the first tests, the session with a block more, and the closing rules.
-use crate::posts;
-use crate::posts::Tally;
+use frame::Header;
+use ground::Tally;
 use session::Profile;
 use session::Session;
 ghost use mathlib.Core.Path.{_≡_};
 ghost use Prim.Native.Nat.{_+_, _*_, _^_, _≤_, _<_};
-ghost use lib.IntN.{natAbs};
-ghost use Rattle.sheet.specs.RecordA.{rowsOf};
-ghost use Rattle.session.specs.Session.{openBlocks};
-ghost use Rattle.load.specs.Posts.{sameZ};
-ghost use Rattle.load.specs.Deliver.{stated, closeFault, closedSession, nextCell, refusal, profileTally, sheetTally};
-ghost use Rattle.load.specs.Steps.{merged, readWith, filledWith, fillStep, Ready, Filling, Placing, Extremes};
+ghost use Rattle.frame.specs.Frame.{rowsOf};
+ghost use Rattle.delivery.specs.Deliver.{closedSession, nextCell, profileTally, sheetTally};
+ghost use Rattle.ground.specs.Posts.{merged};
+ghost use Rattle.load.specs.Steps.{readWith, filledWith, fillStep, Filling, Placing};
 
 // What the first tests leave: a refusal, a held block, block 0, or a later block.
 pub(crate) enum Gate {
@@ -26,11 +24,12 @@ pub(crate) enum Step {
     Fills(Session, u64, u64),
 }
 
-// A broken closing rule: kind, block and byte. Kind 0: none is broken.
-pub(crate) struct Refusal {
-    pub kind: u32,
-    pub block: u64,
-    pub byte: u32,
+// Any delivery judged: held, refused, a good block 0, or a good later block.
+pub(crate) enum Judged {
+    Held,
+    Refused(u32, u64, u32),
+    Begins(Header),
+    Fills(Session, u64, u64),
 }
 
 // Two tallies, one behind the other.
@@ -46,8 +45,8 @@ pub(crate) fn merge(t: Tally, u: Tally) -> Tally
     }
     Tally {
         filled: t.filled + u.filled,
-        low: sheet::record_a::lesser_of(t.low, u.low),
-        high: sheet::record_a::greater_of(t.high, u.high),
+        low: figures::lesser_of(t.low, u.low),
+        high: figures::greater_of(t.high, u.high),
     }
 }
 
@@ -133,74 +132,13 @@ fn close_session(s: Session) -> Session
     }
 }
 
-// Hundredths as billionths; zero where none is filled.
-fn as_stated(filled: u64, extreme: i64) -> i64
-    requires { ⌜ (0 < filled → natAbs extreme ≤ 4276700) ⌝ }
-    ensures { λ r. ⌜ r ≡ stated filled extreme ⌝ }
-{
-    if filled == 0 {
-        return 0;
-    }
-    extreme * 10000000
-}
-
-// A stated extreme is that of the filled cells.
-fn agrees(told: i64, filled: u64, extreme: i64) -> bool
-    requires { ⌜ (0 < filled → natAbs extreme ≤ 4276700) ⌝ }
-    ensures { λ r. ⌜ r ≡ sameZ told (stated filled extreme) ⌝ }
-{
-    posts::same(told, as_stated(filled, extreme))
-}
-
-fn refuse_at(kind: u32, block: u64, byte: u32) -> Refusal
-    ensures { λ r. ⌜ r ≡ refusal kind block byte ⌝ }
-{
-    Refusal { kind, block, byte }
-}
-
-// The closing rules of a profile, then of the sheet with its last profile; `block` is the profile's first.
-fn close_fault(block: u64, s: Session) -> Refusal
-    requires { ⌜ Extremes s ⌝ }
-    ensures { λ r. ⌜ r ≡ closeFault block s ⌝ }
-{
-    let p = s.profile;
-    let h = s.header;
-    if !agrees(p.least, p.filled, p.low) {
-        return refuse_at(11, block, 97);
-    }
-    if !agrees(p.greatest, p.filled, p.high) {
-        return refuse_at(11, block, 121);
-    }
-    if s.closed + 1 != h.profiles {
-        return refuse_at(0, 0, 0);
-    }
-    if !agrees(h.least, s.filled, s.low) {
-        return refuse_at(11, 0, 739);
-    }
-    if !agrees(h.greatest, s.filled, s.high) {
-        return refuse_at(11, 0, 763);
-    }
-    refuse_at(0, 0, 0)
-}
-
-fn open_blocks(s: Session) -> u64
-    requires { ⌜ Ready s ⌝ }
-    ensures { λ r. ⌜ r ≡ openBlocks s ⌝ }
-{
-    let p = s.profile;
-    if p.posts == 0 {
-        return 0;
-    }
-    (p.read - 146) / 170 + 1
-}
-
 // The cell of a profile's next post.
 fn next_cell(s: Session, column: u64, p: Profile) -> u64
     requires { ⌜ (rowsOf (s .header) ≤ 2048) × ((column + s .closed < 2048) × (p .row + p .read < 4096)) ⌝ }
     ensures { λ r. ⌜ r ≡ nextCell s column p ⌝ }
 {
     let h = s.header;
-    let rows = sheet::record_a::row_lattice(h);
+    let rows = frame::row_lattice(h);
     (column + s.closed) * rows.count + p.row + p.read
 }
 
@@ -214,7 +152,7 @@ pub(crate) fn fill_step(s: Session, number: u64, column: u64, p: Profile, n: u64
     if p.read + n < p.posts {
         return Step::Fills(after, at, n);
     }
-    let c = close_fault(number - open_blocks(s), after);
+    let c = rules::close_fault(number - session::open_blocks(s), after);
     if c.kind != 0 {
         return Step::Wrong(c.kind, c.block, c.byte);
     }

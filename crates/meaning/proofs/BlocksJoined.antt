@@ -6,9 +6,10 @@ use native.Mathlib.Omega.{arith}
 use borrow.Author.Tests.{eqb-true, eqb-false}
 use lib.Dec.{eqb}
 use lib.ListN.{length, length-append}
-use Rattle.number.proofs.GrammarParts.{by-test}
-use Rattle.meaning.specs.Text.{below, joined, blockAt}
-use Rattle.meaning.proofs.Lists.{joined-more}
+use Rattle.laws.specs.Lists.{below, joined}
+use Rattle.laws.proofs.Tests.{by-test}
+use Rattle.laws.proofs.Lists.{joined-more}
+use Rattle.meaning.specs.Text.{blockAt}
 use Rattle.meaning.proofs.Joined.{Extends, join-extends}
 
 module _ (at : ℕ → List ℕ) (n : ℕ) (long : (b : ℕ) → b < n → length (at b) ≡ 1024) where

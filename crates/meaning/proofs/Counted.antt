@@ -1,20 +1,20 @@
 -- A running tally of heights is the count of the filled ones, and their least and greatest. Merging tallies carries it.
-use mathlib.Core.Bool.{false}
 use mathlib.Core.List.{List, [], _∷_, _++_}
-use mathlib.Core.Path.{_≡_, refl, sym, _∙_, ap}
-use Prim.Native.Nat.{ℕ, _+_}
+use mathlib.Core.Path.{_≡_, refl, _∙_, ap, sym}
 use native.Mathlib.Omega.{arith}
-use borrow.Author.Tests.{ne-eqb}
-use lib.Dec.{eqb}
 use lib.IntN.{ℤ, pos, _*ℤ_}
 use lib.ListN.{length}
-use Rattle.number.proofs.GrammarParts.{by-test}
-use Rattle.load.specs.Posts.{void, sameZ, tallyAll, noTally, filledIn}
-use Rattle.load.specs.Deliver.{stated}
-use Rattle.load.specs.Steps.{merged}
-use Rattle.load.proofs.MergedTallies.{tally-merged}
-use Rattle.load.proofs.Tallies.{tally-append}
-use Rattle.meaning.specs.Rules.{filledOnly, leastOf, greatestOf, leastStated, greatestStated}
+use mathlib.Core.Bool.{false}
+use Prim.Native.Nat.{ℕ, _+_}
+use borrow.Author.Tests.{ne-eqb}
+use lib.Dec.{eqb}
+use Rattle.laws.specs.Sign.{sameZ}
+use Rattle.laws.proofs.Tests.{by-test}
+use Rattle.ground.specs.Posts.{void, filledIn, merged, tallyAll, noTally}
+use Rattle.ground.specs.Extremes.{filledOnly, leastOf, greatestOf, leastStated, greatestStated}
+use Rattle.ground.proofs.MergedTallies.{tally-merged}
+use Rattle.ground.proofs.Tallies.{tally-append}
+use Rattle.delivery.specs.Deliver.{stated}
 
 pub filled-only : (hs : List ℤ) → filledIn hs ≡ length (filledOnly hs)
 filled-only [] = refl

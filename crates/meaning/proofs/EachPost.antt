@@ -1,23 +1,24 @@
 -- Every post in one cell, every other cell of the sheet void, cells past it as lent. Cell = column × rows + row, taken apart, carries it.
-use mathlib.Core.Bool.{true, false, cond}
-use mathlib.Core.List.{List, [], _∷_, _++_, map}
-use mathlib.Core.Path.{_≡_, refl, sym, _∙_, ap, ap₂}
-use Prim.Native.Nat.{ℕ, zero, suc, _+_, _*_, _-_, _/_, _%_, _≤_, _<_}
-use native.Mathlib.Nat.{add-zero, suc-mul, div-add-mod'}
+use mathlib.Core.List.{map, List, _++_, [], _∷_}
+use mathlib.Core.Path.{_≡_, sym, _∙_, ap, ap₂, refl}
+use Prim.Native.Nat.{ℕ, zero, suc, _+_, _<_, _-_, _≤_, _*_, _/_, _%_}
+use native.Mathlib.Nat.{add-zero, div-add-mod', suc-mul}
 use native.Mathlib.Omega.{arith}
-use borrow.Author.Tests.{leb-true, le-leb, ltb-true, ltb-false, lt-ltb, ne-eqb, eq-eqb}
-use lib.Arith.{digits-lt, digits-div, digits-mod}
+use lib.ListN.{getD, length, drop, length-map, length-append, length-drop, List·getD-append, take}
+use mathlib.Core.Bool.{true, cond, false}
+use borrow.Author.Tests.{leb-true, ltb-true, le-leb, lt-ltb, ltb-false, ne-eqb, eq-eqb}
 use lib.Dec.{leb, ltb, eqb}
 use lib.IntN.{ℤ}
-use lib.ListN.{length, take, drop, getD, length-map, length-append, length-drop, List·getD-append}
 use lib.Seq.{getD-append-add, getD-drop, take-at}
-use Rattle.laws.proofs.Tests.{and-first, and-second}
-use Rattle.number.proofs.GrammarParts.{by-test}
-use Rattle.load.specs.Posts.{void, sameZ, filledIn}
-use Rattle.meaning.specs.Text.{from, below, joined, blocksIn, profilesIn, columnsIn, rowsIn, cellsIn, startOf, headIn, postsIn, heightIn, heightsIn, allHeights, columnIn, rowIn, cellOfPost, profileAt, postStands, valueAt, cellIn}
-use Rattle.meaning.specs.Rules.{firstBreach}
+use lib.Arith.{digits-lt, digits-div, digits-mod}
+use Rattle.laws.specs.Lists.{from, below, joined}
+use Rattle.laws.specs.Sign.{sameZ}
+use Rattle.laws.proofs.Tests.{and-first, and-second, by-test}
+use Rattle.laws.proofs.Lists.{from-length}
+use Rattle.ground.specs.Posts.{void, filledIn}
+use Rattle.meaning.specs.Text.{profilesIn, postsIn, columnIn, rowIn, profileAt, postStands, valueAt, heightIn, blocksIn, startOf, headIn, cellsIn, cellIn, columnsIn, rowsIn, cellOfPost, heightsIn, allHeights}
 use Rattle.meaning.specs.Means.{gridOf}
-use Rattle.meaning.proofs.Lists.{from-length}
+use Rattle.meaning.specs.Rules.{firstBreach}
 use Rattle.meaning.proofs.Starts.{none-yet, start-order}
 use Rattle.meaning.proofs.Placed.{PlacedAt, placed-at, some-profiles}
 

@@ -1,24 +1,25 @@
 -- The grid after one block more: its heights in its posts' cells, every other cell as it was. That earlier posts keep their cells carries it.
-use mathlib.Core.List.{List, _∷_, _++_, map}
-use mathlib.Core.Path.{_≡_, refl, sym, _∙_, ap, ap₂}
+use mathlib.Core.List.{List, _∷_, map, _++_}
+use mathlib.Core.Path.{_≡_, _∙_, refl, sym, ap₂, ap}
 use Prim.Native.Nat.{ℕ, zero, suc, _+_, _*_, _-_, _/_, _%_, _≤_, _<_, min}
+use lib.ListN.{length, length-map, replicate, drop, getD}
 use native.Mathlib.Nat.{div-add-mod'}
 use native.Mathlib.Omega.{arith}
 use borrow.Author.Tests.{ltb-true, ltb-false}
 use lib.Dec.{ltb}
 use lib.IntN.{ℤ}
-use lib.ListN.{length, drop, getD, replicate, length-map}
 use lib.Seq.{sets, ext-getD, length-sets, getD-append-add}
-use Rattle.number.proofs.GrammarParts.{by-test}
-use Rattle.sheet.specs.RecordA.{columnsOf, rowsOf}
-use Rattle.sheet.specs.declared.record_a.Header.{Header}
+use Rattle.laws.specs.Lists.{below, from, joined}
+use Rattle.laws.proofs.Lists.{from-length, map-same}
+use Rattle.laws.proofs.Tests.{by-test}
+use Rattle.laws.proofs.Cells.{sets-before, sets-after, sets-inside}
+use Rattle.frame.specs.Frame.{columnsOf, rowsOf}
+use Rattle.frame.specs.declared.Header.{Header}
 use Rattle.profile.specs.declared.record_b.Head.{Head}
-use Rattle.load.specs.Posts.{void}
-use Rattle.load.proofs.Cells.{sets-before, sets-after, sets-inside}
-use Rattle.meaning.specs.Text.{from, below, joined, blocksIn, profilesIn, rowsIn, cellsIn, startOf, headIn, roomIn, postsIn, heightIn, heightsIn, allHeights, numberOn, columnIn, rowIn, cellOfPost, profileAt, postStands, valueAt, cellIn}
+use Rattle.ground.specs.Posts.{void}
+use Rattle.meaning.specs.Text.{postsIn, heightIn, heightsIn, blocksIn, profilesIn, rowsIn, cellsIn, startOf, headIn, roomIn, allHeights, numberOn, columnIn, rowIn, cellOfPost, profileAt, postStands, valueAt, cellIn}
 use Rattle.meaning.specs.Rules.{firstBreach, postsOfBlock}
 use Rattle.meaning.specs.Means.{gridOf}
-use Rattle.meaning.proofs.Lists.{from-length, map-same}
 use Rattle.meaning.proofs.Starts.{start-order, start-from, none-yet}
 use Rattle.meaning.proofs.Joined.{Extends, Here, start-same, head-same, header-same, column-same, row-same, height-same, heights-whole, one-block-more, within-blocks, not-over, posts-after, newHeights, heights-grow}
 use Rattle.meaning.proofs.SessionGrows.{new-length}

@@ -1,27 +1,30 @@
 -- A text and the same text with one block more: what the first has, the second has too, profile by profile and post by post.
 -- That the earlier blocks are the same carries it.
-use mathlib.Core.Bool.{true, false}
-use mathlib.Core.List.{List, [], _∷_, _++_, map}
-use mathlib.Core.Path.{_≡_, refl, sym, _∙_, ap, ap₂}
-use Prim.Native.Nat.{ℕ, zero, suc, _+_, _*_, _-_, _/_, _≤_, _<_, min}
-use native.Mathlib.Omega.{arith}
-use borrow.Author.Tests.{ltb-true, ltb-false, lt-ltb, le-ltb}
-use lib.Dec.{ltb}
+use mathlib.Core.List.{List, _++_, map, _∷_, []}
+use Prim.Native.Nat.{ℕ, _/_, suc, _<_, _*_, _≤_, zero, _+_, _-_, min}
 use lib.IntN.{ℤ}
+use mathlib.Core.Path.{_≡_, _∙_, ap, refl, sym, ap₂}
+use native.Mathlib.Omega.{arith}
 use lib.ListN.{length, take, drop, length-append, length-drop}
 use lib.Seq.{take-append-le, drop-append-le, take-all, drop-at}
+use borrow.Author.Tests.{ltb-false, lt-ltb, le-ltb, ltb-true}
+use lib.Dec.{ltb}
+use mathlib.Core.Bool.{true, false}
+use Rattle.laws.specs.Lists.{below, from, joined}
+use Rattle.laws.proofs.Tests.{by-test}
+use Rattle.laws.proofs.Lists.{map-same, from-append, map-append, map-shift, joined-until, append-brackets}
 use Rattle.number.specs.Integer.{integer}
-use Rattle.number.proofs.GrammarParts.{by-test}
-use Rattle.sheet.specs.Lattice.{latticeOf, placeOf}
-use Rattle.sheet.specs.RecordA.{stretch, headerOf, west, east, south, north}
-use Rattle.sheet.specs.declared.lattice.Place.{Place}
-use Rattle.sheet.specs.declared.record_a.Header.{Header}
-use Rattle.profile.specs.RecordB.{headOf}
+use Rattle.lattice.specs.Lattice.{latticeOf, placeOf}
+use Rattle.lattice.specs.declared.Place.{Place}
+use Rattle.field.specs.Field.{stretch}
+use Rattle.frame.specs.Frame.{west, east, south, north}
+use Rattle.frame.specs.declared.Header.{Header}
+use Rattle.heading.specs.Heading.{headerOf}
 use Rattle.profile.specs.declared.record_b.Head.{Head}
-use Rattle.load.specs.Posts.{height, heights, postsOf, blocksFor}
-use Rattle.meaning.specs.Text.{from, below, joined, blockAt, blocksIn, headerIn, profilesIn, zIn, startOf, headIn, roomIn, postsIn, postBlock, postByte, heightIn, heightsIn, allHeights, columnPlaceIn, rowPlaceIn}
+use Rattle.profile.specs.RecordB.{headOf}
+use Rattle.ground.specs.Posts.{height, blocksFor, postsOf, heights}
+use Rattle.meaning.specs.Text.{postByte, blockAt, blocksIn, headerIn, startOf, headIn, roomIn, postsIn, postBlock, heightIn, heightsIn, columnPlaceIn, rowPlaceIn, profilesIn, zIn, allHeights}
 use Rattle.meaning.specs.Rules.{postsOfBlock, postsByte}
-use Rattle.meaning.proofs.Lists.{from-append, map-append, map-same, map-shift, joined-until, append-brackets}
 use Rattle.meaning.proofs.Starts.{next-start, start-order, none-yet}
 
 -- what is looked up, over the header, the profile's head and the block that it depends on

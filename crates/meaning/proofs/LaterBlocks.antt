@@ -1,28 +1,31 @@
 -- A later block of a profile, its first or a further one: the verdict on it is the first rule that it breaks, as the text has them.
-use mathlib.Core.Bool.{Bool, true, false, cond}
-use mathlib.Core.List.{List, [], _∷_, _++_}
+use mathlib.Core.Bool.{Bool, false, cond, true}
+use Prim.Native.Nat.{ℕ, _+_, _*_, zero, suc, _-_, _≤_, _<_, min}
+use lib.Dec.{leb, eqb, ltb}
 use mathlib.Core.Path.{_≡_, refl, sym, _∙_, ap, ap₂}
-use Prim.Native.Nat.{ℕ, zero, suc, _+_, _*_, _-_, _≤_, _<_, min}
+use mathlib.Core.List.{List, [], _∷_, _++_}
 use native.Mathlib.Omega.{arith}
 use borrow.Author.Tests.{lt-ltb, ne-eqb}
-use lib.Dec.{leb, ltb, eqb}
-use Rattle.number.proofs.GrammarParts.{by-test}
-use Rattle.sheet.specs.declared.lattice.Place.{Place}
-use Rattle.sheet.specs.declared.lattice.Place.the-variants.{On, Off}
-use Rattle.sheet.specs.declared.record_a.Header.{Header}
-use Rattle.sheet.specs.RecordA.{columnsOf, rowsOf}
+use Rattle.laws.proofs.Tests.{by-test}
+use Rattle.lattice.specs.declared.Place.{Place}
+use Rattle.lattice.specs.declared.Place.the-variants.{On, Off}
+use Rattle.lattice.specs.Lattice.{placeNumber}
+use Rattle.field.specs.Field.{restFault}
+use Rattle.frame.specs.declared.Header.{Header}
+use Rattle.frame.specs.Frame.{columnsOf, rowsOf, zOf}
 use Rattle.profile.specs.RecordB.{recordB, headFault, headOf}
-use Rattle.session.specs.declared.Profile.{Profile}
 use Rattle.session.specs.declared.Session.{Session}
-use Rattle.load.specs.Posts.{postsFault, restFault, postsOf, heights, filledIn}
-use Rattle.load.specs.Deliver.{Verdict, wrong, unless, blockFault, filling, further, opening, openingWith, opened, placed, placeNumber, columnFits, columnPlace, firstColumn, rowFits, rowPlace, postsHere, zOf}
-use Rattle.meaning.specs.Text.{blockAt, blocksIn, headerIn, zIn, startOf, headIn, postsIn, heightsIn, numberOn, columnPlaceIn, rowPlaceIn, columnIn}
-use Rattle.meaning.specs.Rules.{Breach, breach, inBlock, rule, firstBroken, filledOnly, leastOf, greatestOf, postsOfBlock, postsByte, blockRules, columnKept, rowKept, placeRules}
+use Rattle.session.specs.declared.Profile.{Profile}
+use Rattle.ground.specs.Posts.{postsFault, blockFault, postsOf, heights, filledIn}
+use Rattle.ground.specs.Extremes.{filledOnly, leastOf, greatestOf}
+use Rattle.delivery.specs.Deliver.{columnFits, Verdict, unless, wrong, filling, further, opening, openingWith, opened, placed, columnPlace, firstColumn, rowFits, rowPlace, postsHere}
+use Rattle.meaning.specs.Text.{numberOn, blockAt, blocksIn, headerIn, zIn, startOf, headIn, postsIn, heightsIn, columnPlaceIn, rowPlaceIn, columnIn}
+use Rattle.meaning.specs.Rules.{Breach, inBlock, firstBroken, breach, rule, postsOfBlock, postsByte, blockRules, columnKept, rowKept, placeRules}
 use Rattle.meaning.specs.Means.{begunSession}
+use Rattle.meaning.proofs.Verdicts.{byBreach, by-cons, by-append, busy-profile}
 use Rattle.meaning.proofs.Starts.{start-from, none-yet}
 use Rattle.meaning.proofs.Joined.{Extends, Here, columnBy, rowBy, header-same, head-same, column-same, row-same, same-start, newHeights}
 use Rattle.meaning.proofs.SessionGrows.{readSoFar, closed-here, read-is}
-use Rattle.meaning.proofs.Verdicts.{byBreach, by-cons, by-append, busy-profile}
 
 -- `columnFits` over what it looks at
 abbrev fits : ℕ → Header → ℕ → Place → Bool

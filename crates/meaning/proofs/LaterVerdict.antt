@@ -7,19 +7,22 @@ use native.Mathlib.Omega.{arith}
 use borrow.Author.Tests.{ltb-true, ltb-false, lt-ltb, le-ltb, le-leb, lt-leb, leb-true, leb-false, eq-eqb, ne-eqb}
 use lib.Dec.{leb, ltb, eqb}
 use lib.ListN.{length}
-use Rattle.number.proofs.GrammarParts.{by-test}
-use Rattle.sheet.specs.declared.record_a.Header.{Header}
+use Rattle.laws.specs.Lists.{below, joined}
+use Rattle.laws.proofs.Tests.{by-test}
+use Rattle.laws.proofs.Lists.{append-brackets}
+use Rattle.frame.specs.declared.Header.{Header}
 use Rattle.sheet.specs.RecordA.{faultOf}
 use Rattle.profile.specs.RecordB.{recordB, headFault}
 use Rattle.profile.specs.RecordC.{recordC}
-use Rattle.session.specs.Session.{busy}
+use Rattle.session.specs.Session.{busy, complete}
 use Rattle.session.specs.declared.Session.{Session}
-use Rattle.load.specs.Posts.{filledIn}
-use Rattle.load.specs.Deliver.{fills, unless, later, further, opening, complete, filling, nextCell, finishedSession}
-use Rattle.meaning.specs.Text.{below, joined, blockAt, blocksIn, headerIn, profilesIn, startOf, columnIn, numberOn}
-use Rattle.meaning.specs.Rules.{Breach, breach, inBlock, rule, when, firstBroken, firstBreach, sheetRules, endRules, filledOnly, leastOf, greatestOf, blockRules, placeRules, endOf, blocksOfSheet, isComplete}
+use Rattle.ground.specs.Posts.{filledIn}
+use Rattle.ground.specs.Extremes.{filledOnly, leastOf, greatestOf}
+use Rattle.delivery.specs.Deliver.{fills, unless, later, further, opening, filling, nextCell, finishedSession}
+use Rattle.meaning.specs.Text.{blockAt, blocksIn, headerIn, profilesIn, startOf, columnIn, numberOn}
+use Rattle.meaning.specs.Rules.{Breach, breach, inBlock, rule, when, firstBroken, firstBreach, sheetRules, endRules, blockRules, placeRules, endOf, blocksOfSheet, isComplete}
 use Rattle.meaning.specs.Means.{closedIn, isOpen, begunSession}
-use Rattle.meaning.proofs.Lists.{Kept, append-brackets, kept-rest}
+use Rattle.meaning.proofs.Lists.{Kept, kept-rest}
 use Rattle.meaning.proofs.Starts.{closed-most, closed-start, closed-next, closed-is, start-order, start-from}
 use Rattle.meaning.proofs.Joined.{Extends, Here, start-same, header-same, column-same, newHeights}
 use Rattle.meaning.proofs.SessionGrows.{readSoFar, closed-here}
@@ -149,8 +152,9 @@ module _ (text more block : List ℕ) (k : ℕ) (x : Extends text more block k) 
 
     all-complete : complete (begunSession text) ≡ isComplete text
     all-complete =
+        let m : eqb (begunSession text .taken) 0 ≡ false = ne-eqb (begunSession text .taken) 0 (λ e. omega (arith, e, x .many, some)) in
         let n : eqb (begunSession text .closed) (profilesIn text) ≡ true = eq-eqb (begunSession text .closed) (profilesIn text) all in
-        rw n
+        rw (m, n)
         (by-test (eqb (headerIn text .accuracy) 1)
         (λ a.
         by-test (ltb (endOf text) (blocksIn text))
@@ -239,6 +243,7 @@ module _ (text more block : List ℕ) (k : ℕ) (x : Extends text more block k) 
       let lt = ltb-true (closedIn text) (profilesIn text) t in
       let n : eqb (begunSession text .closed) (profilesIn text) ≡ false
       = ne-eqb (begunSession text .closed) (profilesIn text) (λ e. omega (arith, e, lt)) in
-      rw n (sym (incomplete lt)))
+      let m : eqb (begunSession text .taken) 0 ≡ false = ne-eqb (begunSession text .taken) 0 (λ e. omega (arith, e, x .many, some)) in
+      rw (m, n) (sym (incomplete lt)))
       (λ t.
       all-complete (all-now (λ lt. omega (arith, lt, ltb-false (closedIn text) (profilesIn text) t))))

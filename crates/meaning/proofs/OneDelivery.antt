@@ -1,32 +1,35 @@
 -- One delivery to a desk whose session and grid are what a text means: it is answered as the text says, and session and grid are then
 -- what the text with the block, if taken, means. The verdicts of LaterVerdict, test by test, carry it.
-use mathlib.Core.Bool.{Bool, true, false, cond, not}
-use mathlib.Core.List.{List, [], _++_}
+use mathlib.Core.Bool.{true, Bool, false, cond, not}
+use mathlib.Core.List.{List, _++_, []}
 use mathlib.Core.Path.{_≡_, refl, sym, _∙_, ap, ap₂}
-use Prim.Native.Nat.{ℕ, _+_, _*_, _-_, _≤_, _<_}
+use Prim.Native.Nat.{ℕ, _*_, _≤_, _+_, _<_}
+use lib.IntN.{ℤ}
+use lib.ListN.{length, drop, replicate, length-append}
 use native.Mathlib.Nat.{add-assoc}
 use native.Mathlib.Omega.{arith}
 use borrow.Author.Tests.{ltb-true, ltb-false, le-ltb, eq-eqb, ne-eqb, eqb-true, eqb-false}
 use lib.Dec.{ltb, eqb}
-use lib.IntN.{ℤ}
-use lib.ListN.{length, drop, replicate, length-append}
 use lib.Seq.{sets}
-use Rattle.number.proofs.GrammarParts.{by-test}
-use Rattle.sheet.specs.RecordA.{faultOf, headerOf, recordA, rowsOf}
-use Rattle.sheet.specs.declared.record_a.Header.{Header}
-use Rattle.session.specs.Session.{noProfile, sound}
+use Rattle.laws.proofs.Tests.{by-test}
+use Rattle.laws.proofs.Lists.{append-nil, joined-empty}
+use Rattle.frame.specs.Frame.{rowsOf, cellsOf}
+use Rattle.frame.specs.declared.Header.{Header}
+use Rattle.heading.specs.Heading.{headerOf}
+use Rattle.sheet.specs.RecordA.{faultOf, recordA}
+use Rattle.session.specs.Session.{sound, noProfile, begun, complete}
 use Rattle.session.specs.declared.Session.{Session}
-use Rattle.load.specs.Posts.{void, filledIn}
-use Rattle.load.specs.Deliver.{Verdict, again, wrong, begins, fills, answerOf, cellsBy, cellsOf, begun, beginning, later, complete, nextCell, verdictOf}
-use Rattle.load.specs.declared.Answer.{Answer}
-use Rattle.load.specs.declared.Delivered.{Delivered}
-use Rattle.load.specs.declared.Answer.the-variants.{Taken, Held, Refused}
-use Rattle.load.proofs.SoundOut.{sound-out}
-use Rattle.meaning.specs.Text.{blockAt, blocksIn, headerIn, profilesIn, rowsIn, cellsIn, startOf, postsIn, heightsIn, allHeights, columnIn, rowIn, cellOfPost}
-use Rattle.meaning.specs.Rules.{Breach, firstBreach, filledOnly, leastOf, greatestOf, isComplete, inBlock, endOf}
-use Rattle.meaning.specs.Means.{closedIn, isOpen, begunSession, sessionOf, gridOf}
-use Rattle.meaning.specs.Deliveries.{Reader, Keeps, Delivery, Desk, refusedBy, answerTo, atFirst, answered, after, bytesIf}
-use Rattle.meaning.proofs.Lists.{append-nil, joined-empty}
+use Rattle.ground.specs.Posts.{void, filledIn}
+use Rattle.ground.specs.Extremes.{filledOnly, leastOf, greatestOf}
+use Rattle.delivery.specs.Deliver.{Verdict, Lent, Room, lend, roomOf, tooShort, answerOf, lentBy, again, wrong, begins, fills, beginning, later, nextCell, verdictOf}
+use Rattle.delivery.specs.declared.Answer.{Answer}
+use Rattle.delivery.specs.declared.Answer.the-variants.{Taken, Held, Refused}
+use Rattle.delivery.specs.declared.Delivered.{Delivered}
+use Rattle.delivery.proofs.SoundOut.{sound-out}
+use Rattle.meaning.specs.Text.{blocksIn, cellsIn, blockAt, headerIn, profilesIn, rowsIn, startOf, postsIn, heightsIn, allHeights, columnIn, rowIn, cellOfPost}
+use Rattle.meaning.specs.Rules.{firstBreach, Breach, isComplete, inBlock, endOf}
+use Rattle.meaning.specs.Means.{sessionOf, gridOf, closedIn, isOpen, begunSession}
+use Rattle.meaning.specs.Deliveries.{bytesIf, refusedBy, answerTo, Desk, atFirst, Reader, Keeps, Delivery, answered, after}
 use Rattle.meaning.proofs.Starts.{next-start, start-from, none-yet, closed-is}
 use Rattle.meaning.proofs.Joined.{Extends, join-extends, header-same, same-start, newHeights}
 use Rattle.meaning.proofs.SessionGrows.{readSoFar}
@@ -48,7 +51,7 @@ pub record Good (text : List ℕ) (lent : List ℤ) : Type 0 where
 record Fits (text : List ℕ) (lent : List ℤ) (block : List ℕ) (v : Verdict) (a : Answer) : Type 0 where
   answer-is : answerOf (sessionOf text) v .answer ≡ a
   session-is : answerOf (sessionOf text) v .session ≡ sessionOf (text ++ bytesIf a block)
-  grid-is : cellsBy (gridOf text lent) v ≡ gridOf (text ++ bytesIf a block) lent
+  grid-is : lentBy (lend (gridOf text lent)) v .grid ≡ gridOf (text ++ bytesIf a block) lent
   whole-is : length (text ++ bytesIf a block) ≡ 1024 * blocksIn (text ++ bytesIf a block)
   kept-is : 1 ≤ blocksIn (text ++ bytesIf a block) → firstBreach (text ++ bytesIf a block) .kind ≡ 0
   room-is : 1 ≤ blocksIn (text ++ bytesIf a block) → cellsIn (text ++ bytesIf a block) ≤ length lent
@@ -64,7 +67,7 @@ module _ (text : List ℕ) (lent : List ℤ) (block : List ℕ) where
 
   module _ (good : Good text lent) where
     nothing : (a : Answer) → bytesIf a block ≡ [] → (v : Verdict) → answerOf (sessionOf text) v ≡ record { answer = a; session = sessionOf text }
-        → cellsBy (gridOf text lent) v ≡ gridOf text lent → Fits text lent block v a
+        → lentBy (lend (gridOf text lent)) v .grid ≡ gridOf text lent → Fits text lent block v a
     nothing a none v e g =
         let t : text ++ bytesIf a block ≡ text = ap (λ (l : List ℕ). text ++ l) none ∙ append-nil text in
         record {
@@ -143,19 +146,19 @@ module _ (text : List ℕ) (lent : List ℤ) (block : List ℕ) where
             })
             ∙ sym more-begun
 
-        begin-verdict : (cells : ℕ)
-            → beginning cells (recordA block)
-            ≡ byBreach (inBlock 0 (faultOf block)) (cond (ltb cells (cellsOf (headerOf block))) (wrong 12 0 0) (begins (headerOf block)))
+        begin-verdict : (m : Room)
+            → beginning m (recordA block)
+            ≡ byBreach (inBlock 0 (faultOf block)) (cond (tooShort m (headerOf block)) (wrong 12 0 0) (begins (headerOf block)))
         unfolding recordA
-        begin-verdict cells = by-test (eqb (faultOf block .kind) 0) (λ e. rw e) (λ e. rw e)
+        begin-verdict m = by-test (eqb (faultOf block .kind) 0) (λ e. rw e) (λ e. rw e)
 
-        begin-fits : Fits text lent block (beginning (length lent) (recordA block))
+        begin-fits : Fits text lent block (beginning (roomOf (lend lent)) (recordA block))
             (refusedBy (firstBreach (text ++ block)) (cond (ltb (length lent) (cellsIn (text ++ block))) (Refused 12 0 0) Taken))
         begin-fits =
             let more = text ++ block in
             let same : cellsOf (headerOf block) ≡ cellsIn more = ap cellsOf header-here in
             let short : ltb (length lent) (cellsOf (headerOf block)) ≡ ltb (length lent) (cellsIn more) = ap (ltb (length lent)) same in
-            same-fits (begin-verdict (length lent)) refl
+            same-fits (begin-verdict (roomOf (lend lent))) refl
             (by-test (eqb (faultOf block .kind) 0)
             (λ e.
             let z = eqb-true (faultOf block .kind) 0 e in
@@ -245,10 +248,10 @@ module _ (text : List ℕ) (lent : List ℤ) (block : List ℕ) where
 
   -- a block of 1,024 bytes, past the first two tests
   past-two : Good text lent → (number : ℕ) → eqb (length block) 1024 ≡ true
-      → verdictOf (sessionOf text) number block (length lent)
+      → verdictOf (sessionOf text) number block (roomOf (lend lent))
       ≡ cond (ltb number (blocksIn text)) again
       (cond (ltb (blocksIn text) number) (wrong 3 number 0)
-      (cond (eqb number 0) (beginning (length lent) (recordA block))
+      (cond (eqb number 0) (beginning (roomOf (lend lent)) (recordA block))
       (cond (complete (sessionOf text)) (wrong 4 number 0)
       (cond (ltb (length lent) (cellsOf (sessionOf text .header))) (wrong 12 number 0) (later (sessionOf text) number block)))))
   unfolding verdictOf
@@ -259,12 +262,12 @@ module _ (text : List ℕ) (lent : List ℤ) (block : List ℕ) where
       (cond (not (good .sound-is i)) (wrong 2 number 0)
       (cond (ltb number (taken-is i)) again
       (cond (ltb (taken-is i) number) (wrong 3 number 0)
-      (cond (eqb number 0) (beginning (length lent) (recordA block))
+      (cond (eqb number 0) (beginning (roomOf (lend lent)) (recordA block))
       (cond (complete s) (wrong 4 number 0)
       (cond (ltb (length lent) (cellsOf (s .header))) (wrong 12 number 0) (later s number block)))))))
 
   wrong-length : (number : ℕ) → eqb (length block) 1024 ≡ false
-      → verdictOf (sessionOf text) number block (length lent) ≡ wrong 1 number 0
+      → verdictOf (sessionOf text) number block (roomOf (lend lent)) ≡ wrong 1 number 0
   unfolding verdictOf
   wrong-length number l = rw l
 
@@ -292,7 +295,7 @@ module _ (text : List ℕ) (lent : List ℤ) (block : List ℕ) where
       (λ r. same-fits (ap₂ (λ (w : Session) (m : ℕ). later w m block) begun e) refl (later-fits good one some q))))
 
   verdict-fits : Good text lent → (number : ℕ)
-      → Fits text lent block (verdictOf (sessionOf text) number block (length lent)) (answerTo text number block (length lent))
+      → Fits text lent block (verdictOf (sessionOf text) number block (roomOf (lend lent))) (answerTo text number block (roomOf (lend lent)))
   verdict-fits good number =
       let broken = firstBreach (text ++ block) in
       let short = ltb (length lent) (cellsIn (text ++ block)) in
@@ -318,7 +321,7 @@ module _ (text : List ℕ) (lent : List ℤ) (block : List ℕ) where
 pub record Stands (text : List ℕ) (lent : List ℤ) (k : Desk) : Type 0 where
   pub good : Good text lent
   pub session-is : k .session ≡ sessionOf text
-  pub grid-is : k .grid ≡ gridOf text lent
+  pub grid-is : k .lent .grid ≡ gridOf text lent
 
 pub stands-first : (lent : List ℤ) → Stands [] lent (atFirst lent)
 unfolding sound
@@ -330,20 +333,20 @@ stands-first lent =
     }
 
 module _ (r : Reader) (keeps : Keeps r) (text : List ℕ) (lent : List ℤ) (k : Desk) (at : Stands text lent k) (d : Delivery) where
-  fit : Fits text lent (d .bytes) (verdictOf (sessionOf text) (d .number) (d .bytes) (length lent)) (answerTo text (d .number) (d .bytes) (length lent))
+  fit : Fits text lent (d .bytes) (verdictOf (sessionOf text) (d .number) (d .bytes) (roomOf (lend lent))) (answerTo text (d .number) (d .bytes) (roomOf (lend lent)))
   fit = verdict-fits text lent (d .bytes) (at .good) (d .number)
 
-  same-verdict : verdictOf (k .session) (d .number) (d .bytes) (length (k .grid))
-      ≡ verdictOf (sessionOf text) (d .number) (d .bytes) (length lent)
+  same-verdict : verdictOf (k .session) (d .number) (d .bytes) (roomOf (k .lent))
+      ≡ verdictOf (sessionOf text) (d .number) (d .bytes) (roomOf (lend lent))
   same-verdict =
-      ap₂ (λ (s : Session) (n : ℕ). verdictOf s (d .number) (d .bytes) n) (at .session-is)
+      ap₂ (λ (s : Session) (n : ℕ). verdictOf s (d .number) (d .bytes) (record { cells = n })) (at .session-is)
       (ap length (at .grid-is) ∙ length-kept text lent (d .bytes) (at .good))
 
-  told : r .deliver (k .session) (d .number) (d .bytes) (k .grid)
-      ≡ answerOf (sessionOf text) (verdictOf (sessionOf text) (d .number) (d .bytes) (length lent))
-  told = keeps .answers (k .session) (d .number) (d .bytes) (k .grid) ∙ ap₂ answerOf (at .session-is) same-verdict
+  told : r .deliver (k .session) (d .number) (d .bytes) (k .lent)
+      ≡ answerOf (sessionOf text) (verdictOf (sessionOf text) (d .number) (d .bytes) (roomOf (lend lent)))
+  told = keeps .answers (k .session) (d .number) (d .bytes) (k .lent) ∙ ap₂ answerOf (at .session-is) same-verdict
 
-  pub answer-told : answered r k d ≡ answerTo text (d .number) (d .bytes) (length lent)
+  pub answer-told : answered r k d ≡ answerTo text (d .number) (d .bytes) (roomOf (lend lent))
   answer-told = ap (λ (w : Delivered). w .answer) told ∙ fit .answer-is
 
   session-told : after r k d .session ≡ sessionOf (text ++ bytesIf (answered r k d) (d .bytes))
@@ -353,7 +356,7 @@ module _ (r : Reader) (keeps : Keeps r) (text : List ℕ) (lent : List ℤ) (k :
 
   pub stands-next : Stands (text ++ bytesIf (answered r k d) (d .bytes)) lent (after r k d)
   stands-next =
-      let e : answerTo text (d .number) (d .bytes) (length lent) ≡ answered r k d = sym answer-told in
+      let e : answerTo text (d .number) (d .bytes) (roomOf (lend lent)) ≡ answered r k d = sym answer-told in
       record {
         good =
             record {
@@ -362,13 +365,13 @@ module _ (r : Reader) (keeps : Keeps r) (text : List ℕ) (lent : List ℤ) (k :
               room = rw (← e) (fit .room-is);
               sound-is =
                   ap sound (sym session-told)
-                  ∙ ap (λ (w : Delivered). sound (w .session)) (keeps .answers (k .session) (d .number) (d .bytes) (k .grid))
-                  ∙ sound-out (k .session) (d .number) (d .bytes) (k .grid) (ap sound (at .session-is) ∙ at .good .sound-is);
+                  ∙ ap (λ (w : Delivered). sound (w .session)) (keeps .answers (k .session) (d .number) (d .bytes) (k .lent))
+                  ∙ sound-out (k .session) (d .number) (d .bytes) (k .lent) (ap sound (at .session-is) ∙ at .good .sound-is);
             };
         session-is = session-told;
         grid-is =
-            keeps .fills (k .session) (d .number) (d .bytes) (k .grid)
-            ∙ ap₂ cellsBy (at .grid-is) same-verdict
+            ap (λ (l : Lent). l .grid) (keeps .fills (k .session) (d .number) (d .bytes) (k .lent))
+            ∙ ap₂ (λ (g : List ℤ) (v : Verdict). lentBy (lend g) v .grid) (at .grid-is) same-verdict
             ∙ fit .grid-is
             ∙ ap (λ (a : Answer). gridOf (text ++ bytesIf a (d .bytes)) lent) e;
       }
@@ -376,14 +379,14 @@ module _ (r : Reader) (keeps : Keeps r) (text : List ℕ) (lent : List ℤ) (k :
 -- what is not taken changes nothing, whatever the desk
 pub not-taken-nothing : (r : Reader) → Keeps r → (k : Desk) (d : Delivery) → (answered r k d ≡ Taken → ⊥) → after r k d ≡ k
 not-taken-nothing r keeps k d not =
-    let v = verdictOf (k .session) (d .number) (d .bytes) (length (k .grid)) in
-    let a = keeps .answers (k .session) (d .number) (d .bytes) (k .grid) in
-    (λ i. record { session = a i .session; grid = keeps .fills (k .session) (d .number) (d .bytes) (k .grid) i })
+    let v = verdictOf (k .session) (d .number) (d .bytes) (roomOf (k .lent)) in
+    let a = keeps .answers (k .session) (d .number) (d .bytes) (k .lent) in
+    (λ i. record { session = a i .session; lent = keeps .fills (k .session) (d .number) (d .bytes) (k .lent) i })
     ∙ go v refl (λ e. not (ap (λ (w : Delivered). w .answer) a ∙ e))
   where
-    go : (v : Verdict) → verdictOf (k .session) (d .number) (d .bytes) (length (k .grid)) ≡ v
+    go : (v : Verdict) → verdictOf (k .session) (d .number) (d .bytes) (roomOf (k .lent)) ≡ v
         → (answerOf (k .session) v .answer ≡ Taken → ⊥)
-        → record { session = answerOf (k .session) v .session; grid = cellsBy (k .grid) v } ≡ k
+        → record { session = answerOf (k .session) v .session; lent = lentBy (k .lent) v } ≡ k
     go again e n = refl
     go (wrong kind block byte) e n = refl
     go (begins h) e n = absurd (n refl)

@@ -1,25 +1,25 @@
 -- Where each begun profile of a text that breaks no rule stands, and how many posts it has. The list of rules, taken apart, carries it.
-use mathlib.Core.Bool.{Bool, true, false}
-use mathlib.Core.List.{List, [], _∷_, _++_, map}
+use mathlib.Core.List.{List, _∷_, _++_, map, []}
 use mathlib.Core.Path.{_≡_, refl, sym}
-use Prim.Native.Nat.{ℕ, zero, suc, _+_, _-_, _≤_, _<_}
-use native.Mathlib.Nat.{add-zero}
-use native.Mathlib.Omega.{arith}
 use borrow.Author.Tests.{eqb-true, eqb-false, leb-true, eq-eqb, lt-ltb}
 use lib.Dec.{eqb, leb, ltb}
-use Rattle.laws.proofs.Tests.{clash}
-use Rattle.number.proofs.GrammarParts.{by-test}
+use mathlib.Core.Bool.{Bool, true, false}
+use Prim.Native.Nat.{ℕ, _+_, _≤_, suc, _-_, zero, _<_}
+use native.Mathlib.Nat.{add-zero}
+use native.Mathlib.Omega.{arith}
+use Rattle.laws.specs.Lists.{below, joined}
+use Rattle.laws.proofs.Tests.{by-test, clash}
+use Rattle.lattice.specs.declared.Place.{Place}
+use Rattle.lattice.specs.declared.Place.the-variants.{On, Off}
+use Rattle.heading.proofs.HeadingFacts.{Heading, header-facts}
 use Rattle.sheet.specs.RecordA.{faultOf, recordA}
-use Rattle.sheet.specs.declared.lattice.Place.{Place}
-use Rattle.sheet.specs.declared.lattice.Place.the-variants.{On, Off}
-use Rattle.sheet.specs.declared.record_a.Checked.the-variants.{Sheet}
-use Rattle.session.proofs.Facts.{Heading, header-facts}
+use Rattle.sheet.specs.declared.Checked.the-variants.{Sheet}
+use Rattle.sheet.proofs.SheetObeys.{sheet-obeys}
 use Rattle.profile.specs.RecordB.{recordB, headFault, headOf}
 use Rattle.profile.specs.declared.record_b.Headed.the-variants.{Profile}
 use Rattle.profile.proofs.RecordLaws.{head-bounds}
-use Rattle.load.proofs.SoundOut.{sheet-obeys}
-use Rattle.meaning.specs.Text.{below, joined, blockAt, blocksIn, headerIn, profilesIn, columnsIn, rowsIn, startOf, headIn, numberOn, columnPlaceIn, rowPlaceIn, columnIn, rowIn}
-use Rattle.meaning.specs.Rules.{Breach, breach, inBlock, rule, firstBreach, when, blockRules, columnKept, rowKept, placeRules, profileRules, blocksOf, isWhole, closingRules, sheetRules, endOf, endRules, hasBegun}
+use Rattle.meaning.specs.Rules.{Breach, rule, columnKept, rowKept, when, profileRules, hasBegun, sheetRules, endOf, endRules, blockRules, blocksOf, isWhole, closingRules, placeRules, inBlock, breach, firstBreach}
+use Rattle.meaning.specs.Text.{profilesIn, columnsIn, numberOn, columnIn, rowsIn, headIn, rowIn, blocksIn, blockAt, startOf, columnPlaceIn, rowPlaceIn, headerIn}
 use Rattle.meaning.proofs.Lists.{Kept, kept-front, kept-rest, kept-at}
 use Rattle.meaning.proofs.Starts.{start-order}
 

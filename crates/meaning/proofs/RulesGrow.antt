@@ -1,26 +1,33 @@
 -- What the next block adds to the rules of a text that breaks none. That the rules of earlier blocks are the same, and kept, carries it.
+use mathlib.Core.List.{List, _∷_, _++_, [], map}
+use mathlib.Core.Path.{_≡_, _∙_, ap, refl, sym, ap₂}
+use borrow.Author.Tests.{eq-eqb, ne-eqb, lt-ltb, le-ltb, le-leb, lt-leb}
 use mathlib.Core.Bool.{Bool, true, false, cond}
-use mathlib.Core.List.{List, [], _∷_, _++_, map}
-use mathlib.Core.Path.{_≡_, refl, sym, _∙_, ap, ap₂}
-use Prim.Native.Nat.{ℕ, zero, suc, _+_, _*_, _-_, _≤_, _<_}
+use Prim.Native.Nat.{ℕ, suc, _+_, _*_, _-_, _≤_, zero, _<_}
 use native.Mathlib.Omega.{arith}
-use borrow.Author.Tests.{lt-ltb, le-ltb, le-leb, lt-leb, eq-eqb, ne-eqb}
-use lib.Dec.{leb, ltb, eqb}
 use lib.IntN.{ℤ}
-use Rattle.sheet.specs.RecordA.{faultOf, recordA, headerOf, columnsOf, rowsOf}
-use Rattle.sheet.specs.declared.lattice.Place.{Place}
-use Rattle.sheet.specs.declared.lattice.Place.the-variants.{On, Off}
-use Rattle.sheet.specs.declared.record_a.Checked.the-variants.{Sheet}
-use Rattle.sheet.specs.declared.record_a.Header.{Header}
-use Rattle.session.proofs.Facts.{header-facts}
-use Rattle.profile.specs.RecordB.{headFault}
-use Rattle.profile.specs.RecordC.{recordC}
+use lib.Dec.{leb, ltb, eqb}
+use Rattle.laws.specs.Lists.{from, below, joined}
+use Rattle.laws.specs.Sign.{sameZ}
+use Rattle.laws.proofs.Lists.{append-brackets, from-append, map-append, append-nil, joined-append, map-same, joined-empty, joined-until}
+use Rattle.lattice.specs.declared.Place.{Place}
+use Rattle.lattice.specs.declared.Place.the-variants.{On, Off}
+use Rattle.field.specs.Field.{restFault}
+use Rattle.frame.specs.declared.Header.{Header}
+use Rattle.frame.specs.Frame.{columnsOf, rowsOf}
+use Rattle.heading.specs.Heading.{headerOf}
+use Rattle.heading.proofs.HeadingFacts.{header-facts}
+use Rattle.sheet.specs.RecordA.{faultOf, recordA}
+use Rattle.sheet.specs.declared.Checked.the-variants.{Sheet}
+use Rattle.sheet.proofs.SheetObeys.{sheet-obeys}
 use Rattle.profile.specs.declared.record_b.Head.{Head}
-use Rattle.load.specs.Posts.{sameZ, postsFault, restFault, blocksFor}
-use Rattle.load.proofs.SoundOut.{sheet-obeys}
-use Rattle.meaning.specs.Text.{from, below, joined, blockAt, blocksIn, profilesIn, startOf, headIn, heightsIn, allHeights, numberOn, columnPlaceIn, rowPlaceIn}
-use Rattle.meaning.specs.Rules.{Breach, breach, inBlock, rule, firstBroken, firstBreach, when, leastStated, greatestStated, postsOfBlock, postsByte, blockRules, columnKept, rowKept, placeRules, closingRules, blocksOf, isWhole, profileRules, sheetRules, endOf, blocksOfSheet, hasBegun, endRules}
-use Rattle.meaning.proofs.Lists.{from-append, map-append, map-same, append-nil, append-brackets, joined-append, joined-empty, joined-until, Kept, first-append, kept-front, kept-rest, kept-all}
+use Rattle.profile.specs.RecordC.{recordC}
+use Rattle.profile.specs.RecordB.{headFault}
+use Rattle.ground.specs.Posts.{postsFault, blocksFor}
+use Rattle.ground.specs.Extremes.{leastStated, greatestStated}
+use Rattle.meaning.specs.Rules.{Breach, firstBroken, when, inBlock, postsOfBlock, postsByte, breach, rule, blockRules, closingRules, isWhole, sheetRules, endOf, blocksOf, firstBreach, columnKept, rowKept, placeRules, profileRules, blocksOfSheet, hasBegun, endRules}
+use Rattle.meaning.specs.Text.{blocksIn, startOf, headIn, blockAt, profilesIn, heightsIn, allHeights, numberOn, columnPlaceIn, rowPlaceIn}
+use Rattle.meaning.proofs.Lists.{Kept, first-append, kept-front, kept-rest, kept-all}
 use Rattle.meaning.proofs.Starts.{next-start, start-order, start-from}
 use Rattle.meaning.proofs.Joined.{Extends, Here, start-same, head-same, header-same, column-same, row-same, heights-whole, not-over}
 use Rattle.meaning.proofs.Placed.{first-kept, behind-kept, begunRules, lastRules, behindA, behindPlace, behindHead, headRule, header-fine, profile-kept, place-kept}

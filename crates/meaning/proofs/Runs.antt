@@ -1,21 +1,21 @@
 -- Lists of deliveries: what stands after each, by induction on the list; and when a delivery is taken, read off what it is answered.
-use mathlib.Core.Bool.{Bool, true, false, cond, not}
-use mathlib.Core.List.{List, [], _∷_, _++_}
-use mathlib.Core.Path.{_≡_, refl, sym, _∙_, ap}
-use Prim.Native.Nat.{ℕ, suc, _+_, _≤_, _<_}
+use Prim.Native.Nat.{ℕ, _≤_, _<_, suc}
+use mathlib.Core.Path.{_≡_, ap, sym, _∙_, refl}
 use native.Mathlib.Omega.{arith}
-use borrow.Author.Tests.{ltb-false, le-ltb, eq-eqb, eqb-true, eqb-false}
-use lib.Dec.{ltb, eqb}
+use mathlib.Core.Bool.{true, false, Bool, cond, not}
+use mathlib.Core.List.{List, _++_, [], _∷_}
 use lib.IntN.{ℤ}
 use lib.ListN.{length}
-use Rattle.laws.proofs.Tests.{clash}
-use Rattle.number.proofs.GrammarParts.{by-test}
-use Rattle.load.specs.declared.Answer.{Answer}
-use Rattle.load.specs.declared.Answer.the-variants.{Taken, Held, Refused}
+use borrow.Author.Tests.{ltb-false, le-ltb, eq-eqb, eqb-true, eqb-false}
+use lib.Dec.{ltb, eqb}
+use Rattle.laws.proofs.Tests.{clash, by-test}
+use Rattle.laws.proofs.Lists.{append-nil, append-brackets}
+use Rattle.delivery.specs.declared.Answer.{Answer}
+use Rattle.delivery.specs.declared.Answer.the-variants.{Taken, Held, Refused}
+use Rattle.delivery.specs.Deliver.{lend, roomOf}
 use Rattle.meaning.specs.Text.{blocksIn, cellsIn}
 use Rattle.meaning.specs.Rules.{Breach, breach, firstBreach, isComplete}
-use Rattle.meaning.specs.Deliveries.{Reader, Keeps, Delivery, Desk, Due, Disturbed, ended, sent, disturbed, refusedBy, answerTo, atFirst, answered, after, afterAll, bytesIf, takenText, twice}
-use Rattle.meaning.proofs.Lists.{append-nil, append-brackets}
+use Rattle.meaning.specs.Deliveries.{Delivery, Due, refusedBy, answerTo, Reader, Keeps, Desk, Disturbed, ended, sent, disturbed, atFirst, answered, after, afterAll, bytesIf, takenText, twice}
 use Rattle.meaning.proofs.Joined.{Extends, join-extends}
 use Rattle.meaning.proofs.LaterVerdict.{complete-breach, all-now, incomplete}
 use Rattle.meaning.proofs.OneDelivery.{Good, Stands, stands-first, stands-next, answer-told, not-taken-nothing}
@@ -65,7 +65,7 @@ module _ (text : List ℕ) (lent : List ℤ) (good : Good text lent) (d : Delive
 
   -- past the tests of length and number
   next-number : length (d .bytes) ≡ 1024 → d .number ≡ blocksIn text
-      → answerTo text (d .number) (d .bytes) (length lent)
+      → answerTo text (d .number) (d .bytes) (roomOf (lend lent))
       ≡ cond (eqb (d .number) 0) (refusedBy broken (cond short (Refused 12 0 0) Taken))
       (cond (isComplete text) (Refused 4 (d .number) 0) (cond short (Refused 12 (d .number) 0) (refusedBy broken Taken)))
   next-number one e =
@@ -76,7 +76,7 @@ module _ (text : List ℕ) (lent : List ℤ) (good : Good text lent) (d : Delive
       (cond (isComplete text) (Refused 4 (d .number) 0) (cond short (Refused 12 (d .number) 0) (refusedBy broken Taken))) in
       λ i. cond (not (l i)) (Refused 1 (d .number) 0) (cond (a i) Held (cond (b i) (Refused 3 (d .number) 0) rest))
 
-  pub due-taken : Due text lent d → answerTo text (d .number) (d .bytes) (length lent) ≡ Taken
+  pub due-taken : Due text lent d → answerTo text (d .number) (d .bytes) (roomOf (lend lent)) ≡ Taken
   due-taken due =
       let k : eqb (broken .kind) 0 ≡ true = eq-eqb (broken .kind) 0 (due .kept) in
       let s : short ≡ false = le-ltb (length lent) (cellsIn (text ++ d .bytes)) (due .room) in
@@ -103,7 +103,7 @@ module _ (text : List ℕ) (lent : List ℤ) (good : Good text lent) (d : Delive
       go true z = (eqb-true (b .kind) 0 z, rw z at e)
       go false z = not-refused (b .kind) (b .block) (b .byte) (rw z at e)
 
-  pub taken-due : answerTo text (d .number) (d .bytes) (length lent) ≡ Taken → Due text lent d
+  pub taken-due : answerTo text (d .number) (d .bytes) (roomOf (lend lent)) ≡ Taken → Due text lent d
   taken-due e =
       by-test (eqb (length (d .bytes)) 1024)
       (λ l.
@@ -144,12 +144,12 @@ module _ (text : List ℕ) (lent : List ℤ) (good : Good text lent) (d : Delive
       later-part = cond (ltb (d .number) (blocksIn text)) Held third-part
 
   -- a number that is not the next is not taken
-  pub late-not-taken : d .number < blocksIn text → answerTo text (d .number) (d .bytes) (length lent) ≡ Taken → ⊥
+  pub late-not-taken : d .number < blocksIn text → answerTo text (d .number) (d .bytes) (roomOf (lend lent)) ≡ Taken → ⊥
   late-not-taken lt e = omega (arith, lt, taken-due e .next)
 
   -- the next block with a grid long enough: the first rule that it breaks, or taken
   pub next-answer : length (d .bytes) ≡ 1024 → d .number ≡ blocksIn text → cellsIn (text ++ d .bytes) ≤ length lent
-      → answerTo text (d .number) (d .bytes) (length lent) ≡ refusedBy broken Taken
+      → answerTo text (d .number) (d .bytes) (roomOf (lend lent)) ≡ refusedBy broken Taken
   next-answer one e room =
       let s : short ≡ false = le-ltb (length lent) (cellsIn (text ++ d .bytes)) room in
       next-number one e

@@ -1,25 +1,26 @@
 -- A good block of a profile: the session after it is the one that the text with it means. Heights grown by the block's own carry it.
-use mathlib.Core.Bool.{true, false}
 use mathlib.Core.List.{List}
-use mathlib.Core.Path.{_≡_, sym, _∙_, ap}
 use Prim.Native.Nat.{ℕ, suc, _+_, _*_, _-_, _≤_, _<_, min}
+use lib.ListN.{length, length-append}
+use mathlib.Core.Bool.{true, false}
+use mathlib.Core.Path.{_≡_, sym, _∙_, ap}
 use native.Mathlib.Omega.{arith}
 use borrow.Author.Tests.{ltb-true, ltb-false, lt-ltb, le-ltb}
 use lib.Dec.{ltb}
 use lib.IntN.{ℤ}
-use lib.ListN.{length, length-append}
-use Rattle.number.proofs.GrammarParts.{by-test}
-use Rattle.sheet.specs.declared.record_a.Header.{Header}
-use Rattle.session.specs.Session.{noProfile}
+use Rattle.laws.proofs.Tests.{by-test}
+use Rattle.frame.specs.declared.Header.{Header}
 use Rattle.session.specs.declared.Profile.{Profile}
 use Rattle.session.specs.declared.Session.{Session}
-use Rattle.load.specs.Posts.{postsOf, filledIn}
-use Rattle.load.specs.Deliver.{filledSession, closedSession, readOn}
-use Rattle.load.proofs.Heights.{heights-length}
-use Rattle.load.proofs.Scans.{posts-length}
-use Rattle.meaning.specs.Text.{blocksIn, headerIn, profilesIn, zIn, startOf, headIn, roomIn, postsIn, heightsIn, allHeights, columnIn, rowIn}
-use Rattle.meaning.specs.Rules.{postsOfBlock, postsByte, filledOnly, leastOf, greatestOf, endOf}
-use Rattle.meaning.specs.Means.{closedIn, isOpen, openProfile, begunSession}
+use Rattle.session.specs.Session.{noProfile}
+use Rattle.ground.specs.Posts.{filledIn, postsOf}
+use Rattle.ground.specs.Extremes.{filledOnly, leastOf, greatestOf}
+use Rattle.ground.proofs.Heights.{heights-length}
+use Rattle.ground.proofs.PostsRead.{posts-length}
+use Rattle.delivery.specs.Deliver.{filledSession, closedSession, readOn}
+use Rattle.meaning.specs.Text.{blocksIn, headerIn, allHeights, columnIn, headIn, postsIn, heightsIn, rowIn, profilesIn, zIn, startOf, roomIn}
+use Rattle.meaning.specs.Means.{openProfile, closedIn, isOpen, begunSession}
+use Rattle.meaning.specs.Rules.{postsOfBlock, postsByte, endOf}
 use Rattle.meaning.proofs.Starts.{next-start, start-order, closed-is}
 use Rattle.meaning.proofs.Joined.{Extends, Here, header-same, same-start, not-over, posts-after, newHeights, heights-grow, all-grow}
 use Rattle.meaning.proofs.Counted.{counted-on}

@@ -1,12 +1,12 @@
 -- Where profiles start in a text, and how many are closed. Starts rise by at least one block a profile; that carries the rest.
 use mathlib.Core.List.{List}
-use mathlib.Core.Path.{_≡_}
-use Prim.Native.Nat.{ℕ, zero, suc, _+_, _-_, _≤_, _<_}
-use native.Mathlib.Nat.{add-zero}
+use Prim.Native.Nat.{ℕ, suc, _<_, zero, _+_, _≤_, _-_}
 use native.Mathlib.Omega.{arith}
-use borrow.Author.Tests.{leb-true, leb-false, ltb-true, ltb-false}
+use mathlib.Core.Path.{_≡_}
+use native.Mathlib.Nat.{add-zero}
 use lib.Dec.{leb, ltb}
-use Rattle.number.proofs.GrammarParts.{by-test}
+use borrow.Author.Tests.{leb-true, leb-false, ltb-true, ltb-false}
+use Rattle.laws.proofs.Tests.{by-test}
 use Rattle.meaning.specs.Text.{startOf, blocksIn, postsIn}
 use Rattle.meaning.specs.Means.{closedOf}
 

@@ -1,26 +1,27 @@
 -- The verdict on a good block's place in a profile is the first rule that the text with it breaks: what each test of a delivery asks
 -- is a rule of the text. Sessions grown by a block (SessionGrows) carry it.
-use mathlib.Core.Bool.{Bool, true, false, cond, not}
-use mathlib.Core.List.{List, [], _∷_, _++_}
+use mathlib.Core.Bool.{cond, Bool, true, false, not}
+use lib.Dec.{eqb, leb, ltb}
+use mathlib.Core.List.{List, _∷_, [], _++_}
 use mathlib.Core.Path.{_≡_, refl, sym, _∙_, ap, ap₂}
-use Prim.Native.Nat.{ℕ, suc, _+_, _-_, _/_, _≤_, _<_}
+use Prim.Native.Nat.{ℕ, _+_, suc, _-_, _/_, _≤_, _<_}
 use native.Mathlib.Omega.{arith}
 use borrow.Author.Tests.{ltb-true, ltb-false, lt-ltb, le-ltb, le-leb, lt-leb, ne-eqb, eqb-true, eqb-false}
-use lib.Dec.{leb, ltb, eqb}
-use Rattle.number.proofs.GrammarParts.{by-test}
-use Rattle.sheet.specs.declared.record_a.Header.{Header}
+use Rattle.laws.specs.Sign.{sameZ}
+use Rattle.laws.proofs.Tests.{by-test}
+use Rattle.frame.specs.declared.Header.{Header}
 use Rattle.session.specs.Session.{busy, openBlocks, noProfile}
 use Rattle.session.specs.declared.Profile.{Profile}
 use Rattle.session.specs.declared.Session.{Session}
-use Rattle.load.specs.Posts.{sameZ}
-use Rattle.load.specs.Deliver.{Verdict, wrong, begins, fills, closeFault, closeVerdict, closedSession, filling, nextCell, refusal}
-use Rattle.meaning.specs.Text.{blocksIn, headerIn, profilesIn, startOf, headIn, postsIn, heightsIn, allHeights, columnIn}
-use Rattle.meaning.specs.Rules.{Breach, breach, rule, firstBroken, when, leastStated, greatestStated, closingRules, sheetRules, isWhole, endOf}
+use Rattle.ground.specs.Extremes.{leastStated, greatestStated}
+use Rattle.delivery.specs.Deliver.{Verdict, wrong, closeVerdict, refusal, closeFault, fills, closedSession, filling, nextCell}
+use Rattle.meaning.specs.Rules.{Breach, firstBroken, breach, rule, when, closingRules, sheetRules, isWhole, endOf}
+use Rattle.meaning.specs.Text.{headerIn, profilesIn, startOf, headIn, heightsIn, allHeights, blocksIn, postsIn, columnIn}
 use Rattle.meaning.specs.Means.{isOpen, openProfile, begunSession}
-use Rattle.meaning.proofs.Starts.{next-start, start-order}
-use Rattle.meaning.proofs.Joined.{Extends, Here, header-same, same-start, newHeights}
 use Rattle.meaning.proofs.Counted.{stated-least, stated-greatest}
 use Rattle.meaning.proofs.SessionGrows.{openSession, readSoFar, closed-here, session-filled, session-open, session-closed, last-or-not, read-is, exactly}
+use Rattle.meaning.proofs.Starts.{next-start, start-order}
+use Rattle.meaning.proofs.Joined.{Extends, Here, header-same, same-start, newHeights}
 
 -- refused for a broken rule, or else
 abbrev pub byBreach : Breach → Verdict → Verdict

@@ -1,30 +1,31 @@
 -- The paper's sheet, delivered: each block is taken, and the session and the cells afterwards are those the paper tells, for every
 -- reader that keeps the promise. Computing the three verdicts carries it.
-use mathlib.Core.List.{List, [], _∷_}
+use mathlib.Core.List.{[], _∷_, List}
+use lib.IntN.{pos, ℤ}
 use mathlib.Core.Path.{_≡_, refl, _∙_, ap, ap₂}
-use lib.IntN.{ℤ, pos}
 use lib.ListN.{length}
 use Rattle.laws.specs.Digits.{places, short}
 use Rattle.number.specs.Integer.{integer}
 use Rattle.number.specs.Real.{real, billionths}
-use Rattle.sheet.specs.Lattice.{latticeOf, placeOf}
-use Rattle.sheet.specs.RecordA.{recordA, fields, headerOf}
+use Rattle.lattice.specs.Lattice.{latticeOf, placeOf}
+use Rattle.heading.specs.Heading.{headerOf}
+use Rattle.sheet.specs.RecordA.{recordA, fields}
 use Rattle.profile.specs.RecordB.{recordB}
-use Rattle.session.specs.Session.{fresh, noProfile, sound}
-use Rattle.load.specs.Deliver.{verdictOf, Verdict, begins, fills, begun, answerOf, cellsBy}
-use Rattle.load.specs.Posts.{void}
-use Rattle.load.specs.declared.Answer.{Answer}
-use Rattle.load.specs.declared.Answer.the-variants.{Taken}
-use Rattle.load.specs.declared.Delivered.{Delivered}
-use Rattle.meaning.specs.Deliveries.{Reader, Keeps, Delivery, Desk, atFirst, answered, after, afterAll}
-use Rattle.meaning.specs.PaperSheet.{paperA, profile1, profile2, block0, block1, block2, paperSheet, paperLent, paperHeader, paperSession, paperDesk, allAnswered}
+use Rattle.session.specs.Session.{begun, noProfile, fresh, sound}
+use Rattle.ground.specs.Posts.{void}
+use Rattle.delivery.specs.Deliver.{verdictOf, lend, roomOf, begins, fills, Verdict, answerOf, lentBy}
+use Rattle.delivery.specs.declared.Answer.{Answer}
+use Rattle.delivery.specs.declared.Answer.the-variants.{Taken}
+use Rattle.delivery.specs.declared.Delivered.{Delivered}
+use Rattle.meaning.specs.Deliveries.{Desk, Reader, Keeps, Delivery, atFirst, answered, after, afterAll}
+use Rattle.meaning.specs.PaperSheet.{paperHeader, paperA, profile1, profile2, paperSession, block0, block1, block2, paperSheet, paperLent, paperDesk, allAnswered}
 
 -- ---- the desk between the blocks
 
 -- block 0 sets the sheet's six cells void
 abbrev pub desk1 : Desk
 desk1 =
-    record { session = begun paperHeader; grid = void ∷ void ∷ void ∷ void ∷ void ∷ void ∷ pos 7 ∷ [] }
+    record { session = begun paperHeader; lent = lend (void ∷ void ∷ void ∷ void ∷ void ∷ void ∷ pos 7 ∷ []) }
 
 -- profile 1 fills the western column
 abbrev pub desk2 : Desk
@@ -43,7 +44,7 @@ desk2 =
             finished = 0;
             profile = noProfile;
           };
-      grid = pos 1000 ∷ void ∷ pos 1200 ∷ void ∷ void ∷ void ∷ pos 7 ∷ [];
+      lent = lend (pos 1000 ∷ void ∷ pos 1200 ∷ void ∷ void ∷ void ∷ pos 7 ∷ []);
     }
 
 -- ---- the three verdicts
@@ -55,15 +56,15 @@ western = pos 1000 ∷ void ∷ pos 1200 ∷ []
 abbrev eastern : List ℤ
 eastern = pos 1100 ∷ pos 900 ∷ []
 
-verdict0 : verdictOf fresh 0 paperA 7 ≡ begins paperHeader
+verdict0 : verdictOf fresh 0 paperA (record { cells = 7 }) ≡ begins paperHeader
 unfolding verdictOf sound recordA fields headerOf latticeOf integer real billionths places short paperA
 verdict0 = refl
 
-verdict1 : verdictOf (desk1 .session) 1 profile1 7 ≡ fills (desk2 .session) 0 western
+verdict1 : verdictOf (desk1 .session) 1 profile1 (record { cells = 7 }) ≡ fills (desk2 .session) 0 western
 unfolding verdictOf sound recordB latticeOf placeOf integer real billionths places short profile1
 verdict1 = refl
 
-verdict2 : verdictOf (desk2 .session) 2 profile2 7 ≡ fills paperSession 4 eastern
+verdict2 : verdictOf (desk2 .session) 2 profile2 (record { cells = 7 }) ≡ fills paperSession 4 eastern
 unfolding verdictOf sound recordB latticeOf placeOf integer real billionths places short profile2
 verdict2 = refl
 
@@ -71,18 +72,18 @@ verdict2 = refl
 
 module _ (r : Reader) (keeps : Keeps r) where
   -- its answer, session and cells are those of the verdict
-  module _ (k : Desk) (d : Delivery) (v : Verdict) (is : verdictOf (k .session) (d .number) (d .bytes) (length (k .grid)) ≡ v) where
-    told : r .deliver (k .session) (d .number) (d .bytes) (k .grid) ≡ answerOf (k .session) v
-    told = keeps .answers (k .session) (d .number) (d .bytes) (k .grid) ∙ ap (answerOf (k .session)) is
+  module _ (k : Desk) (d : Delivery) (v : Verdict) (is : verdictOf (k .session) (d .number) (d .bytes) (roomOf (k .lent)) ≡ v) where
+    told : r .deliver (k .session) (d .number) (d .bytes) (k .lent) ≡ answerOf (k .session) v
+    told = keeps .answers (k .session) (d .number) (d .bytes) (k .lent) ∙ ap (answerOf (k .session)) is
 
-    filled : r .cells (k .session) (d .number) (d .bytes) (k .grid) ≡ cellsBy (k .grid) v
-    filled = keeps .fills (k .session) (d .number) (d .bytes) (k .grid) ∙ ap (cellsBy (k .grid)) is
+    filled : r .fill (k .session) (d .number) (d .bytes) (k .lent) ≡ lentBy (k .lent) v
+    filled = keeps .fills (k .session) (d .number) (d .bytes) (k .lent) ∙ ap (lentBy (k .lent)) is
 
     answered-by : answered r k d ≡ answerOf (k .session) v .answer
     answered-by = ap (λ (w : Delivered). w .answer) told
 
-    desk-by : after r k d ≡ record { session = answerOf (k .session) v .session; grid = cellsBy (k .grid) v }
-    desk-by = λ i. record { session = told i .session; grid = filled i }
+    desk-by : after r k d ≡ record { session = answerOf (k .session) v .session; lent = lentBy (k .lent) v }
+    desk-by = λ i. record { session = told i .session; lent = filled i }
 
   pub block0-taken : answered r (atFirst paperLent) block0 ≡ Taken
   block0-taken = answered-by (atFirst paperLent) block0 (begins paperHeader) verdict0

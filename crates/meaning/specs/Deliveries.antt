@@ -1,29 +1,29 @@
 -- Demand 3 over the joined text: what a delivery is answered, said without a session; any reader; and a list of deliveries.
 use mathlib.Core.Bool.{cond, not}
-use mathlib.Core.List.{List, [], _∷_, _++_}
-use mathlib.Core.Path.{_≡_}
+use lib.Dec.{eqb, ltb}
+use mathlib.Core.List.{List, _++_, [], _∷_}
 use Prim.Native.Nat.{ℕ, _≤_}
-use lib.IntN.{ℤ}
-use lib.Dec.{ltb, eqb}
 use lib.ListN.{length}
-use Rattle.session.specs.Session.{fresh}
+use lib.IntN.{ℤ}
+use mathlib.Core.Path.{_≡_}
 use Rattle.session.specs.declared.Session.{Session}
-use Rattle.load.specs.Deliver.{deliverOf, cellsAfter}
-use Rattle.load.specs.declared.Answer.{Answer}
-use Rattle.load.specs.declared.Delivered.{Delivered}
-use Rattle.load.specs.declared.Answer.the-variants.{Taken, Held, Refused}
-use Rattle.meaning.specs.Text.{blocksIn, cellsIn}
+use Rattle.session.specs.Session.{fresh}
+use Rattle.delivery.specs.declared.Answer.{Answer}
+use Rattle.delivery.specs.declared.Answer.the-variants.{Refused, Taken, Held}
+use Rattle.delivery.specs.declared.Delivered.{Delivered}
+use Rattle.delivery.specs.Deliver.{Lent, Room, lend, tooShort, deliverOf, lentAfter}
 use Rattle.meaning.specs.Rules.{Breach, firstBreach, isComplete}
+use Rattle.meaning.specs.Text.{blocksIn, cellsIn, headerIn}
 
 -- "refused with kind, block and byte", where a rule is broken
 abbrev pub refusedBy : Breach → Answer → Answer
 refusedBy b otherwise = cond (eqb (b .kind) 0) otherwise (Refused (b .kind) (b .block) (b .byte))
 
--- what a delivery is answered once the blocks of a text are taken, with so many cells lent: the paper's table, in its order
-abbrev pub answerTo : List ℕ → ℕ → List ℕ → ℕ → Answer
-answerTo text number block cells =
+-- what a delivery is answered once the blocks of a text are taken, with so much lent: the paper's table, in its order
+abbrev pub answerTo : List ℕ → ℕ → List ℕ → Room → Answer
+answerTo text number block room =
     let broken = firstBreach (text ++ block) in
-    let short = ltb cells (cellsIn (text ++ block)) in
+    let short = tooShort room (headerIn (text ++ block)) in
     cond (not (eqb (length block) 1024)) (Refused 1 number 0)
     (cond (ltb number (blocksIn text)) Held
     (cond (ltb (blocksIn text) number) (Refused 3 number 0)
@@ -32,15 +32,15 @@ answerTo text number block cells =
 
 -- ---- readers
 
--- anything that takes deliveries: its answer and session, and the cells afterwards
+-- anything that takes deliveries: its answer and session, and what is lent afterwards
 pub record Reader : Type 0 where
-  pub deliver : Session → ℕ → List ℕ → List ℤ → Delivered
-  pub cells : Session → ℕ → List ℕ → List ℤ → List ℤ
+  pub deliver : Session → ℕ → List ℕ → Lent → Delivered
+  pub fill : Session → ℕ → List ℕ → Lent → Lent
 
 -- a reader that keeps the promise of `deliver`
 pub record Keeps (r : Reader) : Type 0 where
-  pub answers : (s : Session) (number : ℕ) (block : List ℕ) (grid : List ℤ) → r .deliver s number block grid ≡ deliverOf s number block grid
-  pub fills : (s : Session) (number : ℕ) (block : List ℕ) (grid : List ℤ) → r .cells s number block grid ≡ cellsAfter s number block grid
+  pub answers : (s : Session) (number : ℕ) (block : List ℕ) (lent : Lent) → r .deliver s number block lent ≡ deliverOf s number block lent
+  pub fills : (s : Session) (number : ℕ) (block : List ℕ) (lent : Lent) → r .fill s number block lent ≡ lentAfter s number block lent
 
 -- ---- lists of deliveries
 
@@ -48,22 +48,22 @@ pub record Delivery : Type 0 where
   pub number : ℕ
   pub bytes : List ℕ
 
--- session and grid, as last returned
+-- session and what is lent, as last returned
 pub record Desk : Type 0 where
   pub session : Session
-  pub grid : List ℤ
+  pub lent : Lent
 
 abbrev pub atFirst : List ℤ → Desk
-atFirst lent = record { session = fresh; grid = lent }
+atFirst grid = record { session = fresh; lent = lend grid }
 
 abbrev pub answered : Reader → Desk → Delivery → Answer
-answered r k d = r .deliver (k .session) (d .number) (d .bytes) (k .grid) .answer
+answered r k d = r .deliver (k .session) (d .number) (d .bytes) (k .lent) .answer
 
 abbrev pub after : Reader → Desk → Delivery → Desk
 after r k d =
     record {
-      session = r .deliver (k .session) (d .number) (d .bytes) (k .grid) .session;
-      grid = r .cells (k .session) (d .number) (d .bytes) (k .grid);
+      session = r .deliver (k .session) (d .number) (d .bytes) (k .lent) .session;
+      lent = r .fill (k .session) (d .number) (d .bytes) (k .lent);
     }
 
 abbrev pub afterAll : Reader → Desk → List Delivery → Desk

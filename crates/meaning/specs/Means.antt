@@ -1,30 +1,18 @@
 -- What a text that breaks no rule means: its session and its grid. Counts are counts of posts and blocks of the text.
-use mathlib.Core.Bool.{Bool, false, cond}
+use mathlib.Core.Bool.{cond, Bool, false}
 use mathlib.Core.List.{List, _++_, map}
 use Prim.Native.Nat.{ℕ, zero, suc}
-use lib.IntN.{ℤ}
 use lib.Dec.{leb, ltb, eqb}
 use lib.ListN.{length, drop}
-use Rattle.session.specs.Session.{fresh, noProfile}
+use lib.IntN.{ℤ}
+use Rattle.laws.specs.Lists.{below}
 use Rattle.session.specs.declared.Profile.{Profile}
+use Rattle.session.specs.Session.{noProfile, fresh}
 use Rattle.session.specs.declared.Session.{Session}
-use Rattle.load.specs.Posts.{filledIn}
-use Rattle.meaning.specs.Text.{
-  below,
-  blocksIn,
-  headerIn,
-  profilesIn,
-  headIn,
-  startOf,
-  rowIn,
-  columnIn,
-  postsIn,
-  heightsIn,
-  allHeights,
-  cellsIn,
-  cellIn,
-}
-use Rattle.meaning.specs.Rules.{filledOnly, leastOf, greatestOf, hasBegun, endOf}
+use Rattle.ground.specs.Posts.{filledIn}
+use Rattle.ground.specs.Extremes.{filledOnly, leastOf, greatestOf}
+use Rattle.meaning.specs.Text.{blocksIn, startOf, profilesIn, headIn, rowIn, postsIn, heightsIn, headerIn, columnIn, allHeights, cellsIn, cellIn}
+use Rattle.meaning.specs.Rules.{hasBegun, endOf}
 
 -- how many of the first n profiles are closed: the text has every block of theirs
 abbrev pub closedOf : List ℕ → ℕ → ℕ

@@ -1,20 +1,21 @@
 -- Document 01, "The lister, and one sheet": its three blocks, laid out field by field in the order of the paper's tables. What the
 -- paper leaves open stands as in samples/paper.dem: the name, level 1, the fifteen reals zero, every other text blank.
-use mathlib.Core.List.{List, [], _∷_, _++_}
-use Prim.Native.Nat.{ℕ, _*_, _-_}
+use mathlib.Core.List.{List, _++_, [], _∷_}
+use Prim.Native.Nat.{ℕ, _-_, _*_}
+use lib.ListN.{replicate, length}
 use Prim.Native.String.{String}
 use lib.IntN.{ℤ, pos}
-use lib.ListN.{length, replicate}
 use Rattle.laws.specs.Texts.{bytes}
-use Rattle.sheet.specs.RecordA.{billion}
-use Rattle.sheet.specs.declared.record_a.Corner.{Corner}
-use Rattle.sheet.specs.declared.record_a.Header.{Header}
+use Rattle.laws.specs.Lists.{joined}
+use Rattle.frame.specs.declared.Corner.{Corner}
+use Rattle.frame.specs.declared.Header.{Header}
+use Rattle.heading.specs.Heading.{billion}
 use Rattle.session.specs.Session.{noProfile}
 use Rattle.session.specs.declared.Session.{Session}
-use Rattle.load.specs.Posts.{void}
-use Rattle.load.specs.declared.Answer.{Answer}
-use Rattle.meaning.specs.Text.{joined}
-use Rattle.meaning.specs.Deliveries.{Reader, Delivery, Desk, answered, after}
+use Rattle.ground.specs.Posts.{void}
+use Rattle.delivery.specs.declared.Answer.{Answer}
+use Rattle.delivery.specs.Deliver.{lend}
+use Rattle.meaning.specs.Deliveries.{Delivery, Desk, Reader, answered, after}
 
 -- ---- fields of a width
 
@@ -188,7 +189,7 @@ abbrev pub paperCells : List ℤ
 paperCells = pos 1000 ∷ void ∷ pos 1200 ∷ void ∷ pos 1100 ∷ pos 900 ∷ pos 7 ∷ []
 
 abbrev pub paperDesk : Desk
-paperDesk = record { session = paperSession; grid = paperCells }
+paperDesk = record { session = paperSession; lent = lend paperCells }
 
 -- what each delivery of a list is answered, in turn
 abbrev pub allAnswered : Reader → Desk → List Delivery → List Answer

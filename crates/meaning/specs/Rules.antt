@@ -1,33 +1,20 @@
 -- Which texts break no rule of document 01, and which rule a text breaks first: whole records, each with all its blocks.
-use mathlib.Core.Bool.{Bool, false, cond}
-use mathlib.Core.List.{List, [], _∷_, _++_, map}
 use Prim.Native.Nat.{ℕ, zero, suc, _+_, _*_, _-_, min}
-use lib.IntN.{ℤ, pos, _*ℤ_}
-use lib.Dec.{leb, ltb, eqb}
-use Rattle.sheet.specs.RecordA.{faultOf, lesser, greater}
-use Rattle.sheet.specs.declared.lattice.Place.{Place}
-use Rattle.sheet.specs.declared.lattice.Place.the-variants.{On, Off}
-use Rattle.sheet.specs.declared.record_a.Fault.{Fault}
+use mathlib.Core.Bool.{Bool, cond, false}
+use mathlib.Core.List.{List, [], _∷_, _++_, map}
+use lib.Dec.{eqb, leb, ltb}
+use Rattle.laws.specs.Sign.{sameZ}
+use Rattle.laws.specs.Lists.{below, joined}
+use Rattle.lattice.specs.declared.Place.{Place}
+use Rattle.lattice.specs.declared.Place.the-variants.{On, Off}
+use Rattle.field.specs.declared.Fault.{Fault}
+use Rattle.field.specs.Field.{restFault}
+use Rattle.sheet.specs.RecordA.{faultOf}
 use Rattle.profile.specs.RecordB.{headFault}
 use Rattle.profile.specs.RecordC.{recordC}
-use Rattle.load.specs.Posts.{void, sameZ, postsFault, restFault, blocksFor}
-use Rattle.meaning.specs.Text.{
-  below,
-  joined,
-  blockAt,
-  blocksIn,
-  headerIn,
-  profilesIn,
-  columnsIn,
-  rowsIn,
-  startOf,
-  headIn,
-  heightsIn,
-  allHeights,
-  columnPlaceIn,
-  rowPlaceIn,
-  columnIn,
-}
+use Rattle.ground.specs.Posts.{postsFault, blocksFor}
+use Rattle.ground.specs.Extremes.{leastStated, greatestStated}
+use Rattle.meaning.specs.Text.{blockAt, startOf, headIn, profilesIn, columnsIn, columnIn, rowsIn, columnPlaceIn, rowPlaceIn, heightsIn, blocksIn, headerIn, allHeights}
 
 -- a broken rule: document 01's number, the block, the byte; kind 0 where the rule is kept
 pub record Breach : Type 0 where
@@ -58,28 +45,6 @@ abbrev pub when : Bool → List Breach → List Breach
 when asked bs = cond asked bs []
 
 -- ---- extremes of heights
-
-abbrev pub filledOnly : List ℤ → List ℤ
-filledOnly [] = []
-filledOnly (h ∷ hs) = cond (sameZ h void) (filledOnly hs) (h ∷ filledOnly hs)
-
--- "or zero if there are none"
-abbrev pub leastOf : List ℤ → ℤ
-leastOf [] = pos 0
-leastOf (h ∷ []) = h
-leastOf (h ∷ (g ∷ hs)) = lesser h (leastOf (g ∷ hs))
-
-abbrev pub greatestOf : List ℤ → ℤ
-greatestOf [] = pos 0
-greatestOf (h ∷ []) = h
-greatestOf (h ∷ (g ∷ hs)) = greater h (greatestOf (g ∷ hs))
-
--- the extremes of the filled heights, as billionths: hundredths are 10,000,000 of them
-abbrev pub leastStated : List ℤ → ℤ
-leastStated hs = leastOf (filledOnly hs) *ℤ pos 10000000
-
-abbrev pub greatestStated : List ℤ → ℤ
-greatestStated hs = greatestOf (filledOnly hs) *ℤ pos 10000000
 
 -- ---- one profile, of which the text has at least the first block
 

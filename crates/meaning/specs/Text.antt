@@ -1,32 +1,23 @@
 -- The joined text of a sheet: blocks, profiles, posts, and the cell that each post stands for. Nothing here knows a session or a step.
-use mathlib.Core.Bool.{Bool, cond}
-use mathlib.Core.List.{List, [], _∷_, _++_, map}
-use Prim.Native.Nat.{ℕ, zero, suc, _+_, _*_, _-_, _/_, _%_, min}
+use mathlib.Core.List.{List, map}
+use Prim.Native.Nat.{ℕ, _*_, _/_, zero, suc, _+_, _-_, min, _%_}
+use lib.ListN.{take, drop, length}
+use mathlib.Core.Bool.{cond, Bool}
+use lib.Dec.{ltb, leb}
 use lib.IntN.{ℤ}
-use lib.Dec.{leb, ltb}
-use lib.ListN.{length, take, drop}
+use Rattle.laws.specs.Lists.{below, joined}
 use Rattle.laws.specs.Sign.{_and_}
 use Rattle.number.specs.Integer.{integer}
-use Rattle.sheet.specs.Lattice.{latticeOf, placeOf}
-use Rattle.sheet.specs.RecordA.{headerOf, columnsOf, rowsOf, west, east, south, north, stretch}
-use Rattle.sheet.specs.declared.lattice.Place.{Place}
-use Rattle.sheet.specs.declared.lattice.Place.the-variants.{On, Off}
-use Rattle.sheet.specs.declared.record_a.Header.{Header}
+use Rattle.lattice.specs.declared.Place.{Place}
+use Rattle.lattice.specs.declared.Place.the-variants.{On, Off}
+use Rattle.lattice.specs.Lattice.{latticeOf, placeOf}
+use Rattle.field.specs.Field.{stretch}
+use Rattle.frame.specs.declared.Header.{Header}
+use Rattle.frame.specs.Frame.{columnsOf, rowsOf, west, east, south, north}
+use Rattle.heading.specs.Heading.{headerOf}
 use Rattle.profile.specs.RecordB.{headOf}
 use Rattle.profile.specs.declared.record_b.Head.{Head}
-use Rattle.load.specs.Posts.{void, height, blocksFor}
-
--- the n numbers from a on, and those below n
-abbrev pub from : ℕ → ℕ → List ℕ
-from a zero = []
-from a (suc n) = a ∷ from (suc a) n
-
-abbrev pub below : ℕ → List ℕ
-below n = from 0 n
-
-abbrev pub joined : {A : Type 0} → List (List A) → List A
-joined [] = []
-joined (xs ∷ xss) = xs ++ joined xss
+use Rattle.ground.specs.Posts.{blocksFor, height, void}
 
 -- ---- blocks of 1,024 bytes, counted from 0
 

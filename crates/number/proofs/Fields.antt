@@ -1,17 +1,17 @@
 -- An integer field judged by the places that the code found, and the lengths that a field may have.
-use mathlib.Core.Bool.{true, false, not}
 use mathlib.Core.List.{List, [], _∷_}
-use mathlib.Core.Path.{_≡_, refl, sym, _∙_, ap}
-use Prim.Native.Nat.{ℕ, _-_, _≤_, _<_}
-use native.Mathlib.Omega.{arith}
-use borrow.Author.Tests.{le-leb, lt-leb}
-use lib.Dec.{leb}
+use mathlib.Core.Path.{_≡_, refl, _∙_, sym, ap}
+use Prim.Native.Nat.{ℕ, _<_, _≤_}
+use borrow.Author.Tests.{lt-leb, le-leb}
 use lib.ListN.{length, drop, length-drop}
+use lib.Dec.{leb}
+use mathlib.Core.Bool.{true, false, not}
+use native.Mathlib.Omega.{arith}
 use Rattle.laws.proofs.Tests.{and-fails-second}
-use Rattle.number.specs.Bytes.{isBlank, isSign, isDigit, isEmpty, pastOne, pastAll, digits}
-use Rattle.number.specs.Integer.{integer, integerForm, integerValue, unsignedPart, within, read, refused}
-use Rattle.number.specs.Steps.{Past}
+use Rattle.number.specs.Integer.{within, refused, integer, integerForm, integerValue, read, unsignedPart}
 use Rattle.number.specs.declared.Reading.{Reading}
+use Rattle.number.specs.Bytes.{isEmpty, isBlank, isSign, isDigit, pastOne, pastAll, digits}
+use Rattle.number.specs.Steps.{Past}
 use Rattle.number.proofs.Runs.{run-length}
 
 pub within-none : (most : ℕ) (s : List ℕ) (r : Reading) → length s < 1 → within most s r ≡ refused 1

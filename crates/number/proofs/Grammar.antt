@@ -1,25 +1,25 @@
 -- `integer` and `real` answer what the grammar answers, both ways and for every kind: carried by the laws of forms and values.
-use mathlib.Core.Bool.{Bool, true, cond}
 use mathlib.Core.List.{List}
-use mathlib.Core.Logic.{_↔_, Iff·trans}
-use mathlib.Core.Path.{_≡_, refl, sym, _∙_, ap, subst}
 use Prim.Native.Nat.{ℕ, _≤_}
+use lib.ListN.{length}
+use mathlib.Core.Bool.{Bool, true, cond}
+use mathlib.Core.Logic.{_↔_, Iff·trans}
+use mathlib.Core.Path.{_≡_, sym, _∙_, subst, ap, refl}
 use borrow.Author.Tests.{le-leb}
 use lib.Dec.{leb}
 use lib.IntN.{ℤ}
-use lib.ListN.{length}
 use Rattle.laws.specs.Sign.{_and_, signed}
+use Rattle.laws.proofs.Tests.{clash, and-both, by-test}
 use Rattle.laws.proofs.Answers.{one-answer}
-use Rattle.laws.proofs.Tests.{clash, and-both}
 use Rattle.number.specs.declared.Reading.{Reading}
-use Rattle.number.specs.Bytes.{isBlank, isMinus, starts, pastAll}
-use Rattle.number.specs.Integer.{integer, integerForm, integerValue, unsignedPart, within, read, refused}
-use Rattle.number.specs.Real.{real, realForm, realValue}
+use Rattle.number.specs.Integer.{refused, within, read, integer, integerForm, integerValue, unsignedPart}
 use Rattle.number.specs.Grammar.{IntegerText, IntegerMeans, RealText, RealMeans, Large, Billionths}
-use Rattle.number.proofs.GrammarParts.{by-test, between}
+use Rattle.number.specs.Bytes.{isBlank, isMinus, starts, pastAll}
+use Rattle.number.specs.Real.{realValue, real, realForm}
+use Rattle.number.proofs.GrammarParts.{between}
 use Rattle.number.proofs.GrammarForms.{integer-read, integer-found, real-read, real-found}
-use Rattle.number.proofs.GrammarValues.{Valued, valued, valued-is}
-use Rattle.number.proofs.GrammarValues.Valued.{large, fine, exact}
+use Rattle.number.proofs.GrammarValues.{Valued, valued-is, valued}
+use Rattle.number.proofs.GrammarValues.Valued.{exact, large, fine}
 
 -- 1 to `most` bytes
 abbrev pub Fits : ℕ → List ℕ → Type 0

@@ -1,21 +1,18 @@
 -- A text has the grammar's form exactly when the form's test passes, and is taken apart alike: carried by the laws of its parts.
-use mathlib.Core.Bool.{Bool, true, not}
+use mathlib.Core.Bool.{true, not, Bool}
 use mathlib.Core.List.{List, [], _∷_, _++_, append-nil}
-use mathlib.Core.Path.{_≡_, refl, sym, _∙_, ap}
-use Prim.Native.Nat.{ℕ, _+_, _≤_}
+use mathlib.Core.Path.{_≡_, sym, refl, _∙_, ap}
+use Prim.Native.Nat.{ℕ, _≤_, _+_}
 use native.Mathlib.Omega.{arith}
 use lib.ListN.{length}
-use Rattle.laws.specs.Sign.{_and_, signed}
-use Rattle.laws.proofs.Tests.{clash, and-first, and-second, and-both}
-use Rattle.number.specs.Bytes.{isBlank, isDigit, isMinus, isPoint, isEmpty, starts, pastOne, pastAll, digits, number}
-use Rattle.number.specs.Integer.{unsignedPart, integerForm, integerValue}
-use Rattle.number.specs.Real.{fractionPart, mantissaDigits, pastMantissa, powerForm, pastPower, powerMinus, powerSize}
-use Rattle.number.specs.Real.{realForm, realValue, billionths}
-use Rattle.number.specs.Grammar.{IntegerText, RealText, raised, sunk}
+use Rattle.laws.specs.Sign.{signed, _and_}
+use Rattle.laws.proofs.Tests.{clash, and-both, and-first, and-second}
+use Rattle.number.specs.Bytes.{isEmpty, isDigit, pastAll, digits, isBlank, isMinus, starts, number, isPoint, pastOne}
+use Rattle.number.specs.Integer.{integerForm, integerValue, unsignedPart}
+use Rattle.number.specs.Grammar.{IntegerText, raised, sunk, RealText}
+use Rattle.number.specs.Real.{realForm, realValue, billionths, fractionPart, pastMantissa, mantissaDigits, powerForm, pastPower, powerMinus, powerSize}
 use Rattle.number.proofs.Fields.{empty-some}
-use Rattle.number.proofs.GrammarParts.{Headed, digits-past, digits-every, digits-of, past-of, past-every, past-stops}
-use Rattle.number.proofs.GrammarParts.{digits-open, mantissa-opens, exponent-starts, head-found, head-past, head-minus}
-use Rattle.number.proofs.GrammarParts.{fraction-read, fraction-found, power-read, power-found}
+use Rattle.number.proofs.GrammarParts.{Headed, digits-of, past-of, digits-open, head-past, head-minus, digits-past, digits-every, head-found, mantissa-opens, exponent-starts, fraction-read, power-read, past-every, past-stops, fraction-found, power-found}
 
 some-byte : (l : List ℕ) → not (isEmpty l) ≡ true → 1 ≤ length l
 some-byte [] h = clash (sym h)

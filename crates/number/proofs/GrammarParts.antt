@@ -1,27 +1,23 @@
 -- The parts of a field, found and read back: head, digits, fraction, exponent. Carried by this: a run ends at the first other byte.
-use mathlib.Core.Bool.{Bool, true, false, cond}
-use mathlib.Core.List.{List, [], _∷_, _++_, append-assoc}
-use mathlib.Core.Path.{_≡_, refl, sym, _∙_, ap}
+use mathlib.Core.Bool.{true, Bool, cond, false}
+use mathlib.Core.Path.{_≡_, refl, sym, ap, _∙_}
 use Prim.Native.Nat.{ℕ, _≤_, _<_}
-use native.Mathlib.Omega.{arith}
-use borrow.Author.Tests.{leb-true, le-leb, eqb-true, ne-eqb}
+use borrow.Author.Tests.{leb-true, ne-eqb, le-leb, eqb-true}
 use lib.Dec.{leb, eqb}
+use mathlib.Core.List.{List, [], _∷_, _++_, append-assoc}
+use native.Mathlib.Omega.{arith}
 use lib.ListN.{length}
 use Rattle.laws.specs.Sign.{_and_}
-use Rattle.laws.proofs.Tests.{clash, and-first, and-second, and-both}
-use Rattle.number.specs.Bytes.{isBlank, isDigit, isSign, isMinus, isPoint, isLetter, isEmpty}
-use Rattle.number.specs.Bytes.{starts, pastOne, pastAll, digits}
+use Rattle.laws.specs.Texts.{every}
+use Rattle.laws.proofs.Tests.{and-first, and-second, clash, and-both, by-test}
+use Rattle.number.specs.Bytes.{isEmpty, starts, pastOne, pastAll, isDigit, digits, isSign, isBlank, isMinus, isPoint, isLetter}
+use Rattle.number.specs.Grammar.Sign.{minus, unsigned, plus}
+use Rattle.number.specs.Grammar.{Sign, Fraction, Exponent}
 use Rattle.number.specs.Integer.{unsignedPart}
-use Rattle.number.specs.Real.{powerForm, pastPower, powerMinus, powerSize}
-use Rattle.number.specs.Grammar.{every, Sign, Fraction, Exponent}
-use Rattle.number.specs.Grammar.Sign.{unsigned, plus, minus}
 use Rattle.number.specs.Grammar.Fraction.{whole, pointed}
 use Rattle.number.specs.Grammar.Exponent.{absent, lettered}
+use Rattle.number.specs.Real.{powerForm, pastPower, powerMinus, powerSize}
 use Rattle.number.proofs.Places.{digit-range}
-
-pub by-test {ℓ} : {X : Type ℓ} (b : Bool) → (b ≡ true → X) → (b ≡ false → X) → X
-by-test true t f = t refl
-by-test false t f = f refl
 
 pub between : (low n high : ℕ) → (leb low n and leb n high) ≡ true → (low ≤ n) × (n ≤ high)
 between low n high h =

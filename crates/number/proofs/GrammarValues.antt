@@ -1,23 +1,21 @@
 -- The tests of `billionths` say what the grammar says of a real value: carried by the laws of powers of ten and of `short`.
 use mathlib.Core.Bool.{Bool, true, false}
-use mathlib.Core.Path.{_≡_, sym, _∙_, ap}
 use Prim.Native.Nat.{ℕ, _+_, _*_, _/_, _%_, _^_, _<_}
-use native.Mathlib.Nat.{div-add-mod', div-lt-iff-lt-mul, lt-of-mul-lt-mul-right, mul-assoc, mul-comm, mul-div-cancel}
-use native.Mathlib.Nat.{mul-mod-left}
+use mathlib.Core.Path.{_≡_, sym, _∙_, ap}
+use native.Mathlib.Nat.{div-add-mod', div-lt-iff-lt-mul, lt-of-mul-lt-mul-right, mul-assoc, mul-comm, mul-div-cancel, mul-mod-left}
 use native.Mathlib.Omega.{arith}
 use borrow.Author.Tests.{leb-true, le-leb, lt-leb, eqb-true, eq-eqb}
 use lib.Dec.{leb, eqb}
 use lib.Pow.{pow-add}
-use Rattle.laws.specs.Sign.{_and_, signed}
+use Rattle.laws.specs.Sign.{signed, _and_}
 use Rattle.laws.specs.Digits.{short}
 use Rattle.laws.proofs.Shorts.{short-few, few-short}
 use Rattle.laws.proofs.Tens.{ten-pos}
-use Rattle.laws.proofs.Tests.{clash, and-first, and-second, and-both}
+use Rattle.laws.proofs.Tests.{clash, and-first, and-second, and-both, by-test}
 use Rattle.number.specs.declared.Reading.{Reading}
 use Rattle.number.specs.Integer.{read, refused}
-use Rattle.number.specs.Real.{billionths}
 use Rattle.number.specs.Grammar.{Large, Billionths, raised, sunk}
-use Rattle.number.proofs.GrammarParts.{by-test}
+use Rattle.number.specs.Real.{billionths}
 
 -- "magnitude 1,000,000,000 or more (7); not a whole number of billionths, or more than 15 significant digits .. (8)"
 pub data Valued (negative : Bool) (m p : ℕ) (l : Bool) (e : ℕ) : Reading → Type 0 where

@@ -1,23 +1,22 @@
 -- What a real that reads is bound to: its size is below 10 ^ 18 billionths and has at most 15 significant digits; the tests of `billionths` say so.
-use mathlib.Core.Bool.{Bool, true, false}
-use mathlib.Core.List.{List}
+use mathlib.Core.Bool.{true, Bool, false}
 use mathlib.Core.Path.{_≡_}
-use Prim.Native.Nat.{ℕ, _*_, _/_, _%_, _^_, _<_}
+use Prim.Native.Nat.{_^_, _<_, ℕ, _*_, _/_, _%_}
+use lib.IntN.{ℤ, natAbs}
 use native.Mathlib.Nat.{div-lt-iff-lt-mul}
 use native.Mathlib.Omega.{arith}
 use borrow.Author.Tests.{leb-false}
 use lib.Dec.{leb, eqb}
-use lib.IntN.{ℤ, natAbs}
+use mathlib.Core.List.{List}
 use lib.ListN.{length}
-use Rattle.laws.specs.Sign.{_and_}
 use Rattle.laws.specs.Digits.{short}
+use Rattle.laws.specs.Sign.{_and_}
 use Rattle.laws.proofs.Integers.{signed-size}
 use Rattle.laws.proofs.Tens.{ten-pos}
-use Rattle.laws.proofs.Tests.{and-second}
+use Rattle.laws.proofs.Tests.{and-second, by-test}
+use Rattle.number.specs.Real.{billionths, real, realForm, mantissaDigits, up, down}
 use Rattle.number.specs.Bytes.{isBlank, isMinus, starts, pastAll, number}
 use Rattle.number.specs.Integer.{unsignedPart}
-use Rattle.number.specs.Real.{real, realForm, billionths, mantissaDigits, up, down}
-use Rattle.number.proofs.GrammarParts.{by-test}
 
 abbrev pub Limited : ℤ → Type 0
 Limited z = (natAbs z < 10 ^ 18) × (short 18 15 (natAbs z) ≡ true)

@@ -1,20 +1,20 @@
 -- A power of ten judged by the places that the code found.
-use mathlib.Core.Bool.{Bool, true, false}
+use mathlib.Core.Bool.{true, false, Bool}
 use mathlib.Core.List.{List}
-use mathlib.Core.Logic.{_⊎_, inl, inr}
 use mathlib.Core.Path.{_≡_, sym, _∙_, ap, subst⁻¹}
-use Prim.Native.Nat.{ℕ, _+_, _-_, _≤_, _<_}
-use native.Mathlib.Nat.{lt-of-lt-of-le}
+use Prim.Native.Nat.{ℕ, _≤_, _+_, _-_, _<_}
 use native.Mathlib.Omega.{arith}
+use lib.ListN.{length, drop, getD}
+use mathlib.Core.Logic.{_⊎_, inl, inr}
+use native.Mathlib.Nat.{lt-of-lt-of-le}
 use borrow.Author.Tests.{le-leb}
 use lib.Dec.{leb, lit<}
 use Rattle.laws.specs.Sign.{_and_}
-use lib.ListN.{length, drop, getD}
 use Rattle.laws.proofs.Tens.{ten-up}
 use Rattle.laws.proofs.Tests.{clash, and-fails-second}
-use Rattle.number.specs.Bytes.{isLetter, isSign, isMinus, isDigit, starts, pastOne, pastAll, digits, number}
+use Rattle.number.specs.Bytes.{isLetter, starts, isSign, isMinus, isDigit, pastOne, pastAll, digits, number}
+use Rattle.number.specs.Steps.{PowerAt, Past, RunAt, Leads, none}
 use Rattle.number.specs.Real.{power}
-use Rattle.number.specs.Steps.{Past, RunAt, PowerAt, Leads, none}
 use Rattle.number.specs.declared.decimal.Run.{Run}
 use Rattle.number.proofs.Places.{one-taken, starts-here}
 use Rattle.number.proofs.Runs.{run-length, number-below}

@@ -1,13 +1,13 @@
 -- A real field judged by the places that the code found, and its value from the kept digits.
-use mathlib.Core.Bool.{Bool, true, false, not}
+use mathlib.Core.Bool.{true, false, Bool, not}
 use mathlib.Core.List.{List}
-use mathlib.Core.Path.{_≡_, sym, _∙_, ap, subst⁻¹}
-use Prim.Native.Nat.{ℕ, _+_, _≤_, _<_}
+use mathlib.Core.Path.{_≡_, _∙_, sym, ap, subst⁻¹}
+use Prim.Native.Nat.{ℕ, _≤_, _+_, _<_}
+use lib.ListN.{length, drop, length-drop}
 use native.Mathlib.Nat.{add-zero}
 use native.Mathlib.Omega.{arith}
-use lib.ListN.{length, drop, length-drop}
 use Rattle.laws.proofs.Tests.{and-fails-first, and-fails-second}
-use Rattle.number.specs.Bytes.{isBlank, isMinus, isEmpty, starts, pastAll, digits, isDigit, number}
+use Rattle.number.specs.Bytes.{isBlank, isMinus, starts, pastAll, isEmpty, digits, isDigit, number}
 use Rattle.number.specs.Integer.{unsignedPart, refused}
 use Rattle.number.specs.Real.{real, realForm, realValue, mantissaDigits, fractionPart, pastMantissa, powerForm, powerMinus, powerSize, pastPower}
 use Rattle.number.specs.Steps.{Past, MantissaAt, PowerAt, ScaledAt, Leads, none, keptAll, readingOf}

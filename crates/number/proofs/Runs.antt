@@ -1,18 +1,18 @@
 -- Runs of digits: what holds while a loop passes them, and at its end. The two loops over digits cite these laws.
-use mathlib.Core.Bool.{Bool, true, false}
 use mathlib.Core.List.{List, [], _∷_, _++_}
-use mathlib.Core.Path.{_≡_, refl, sym, _∙_, ap}
-use Prim.Native.Nat.{ℕ, suc, _+_, _*_, _-_, _^_, _≤_, _<_}
-use native.Mathlib.Nat.{sub-self, add-zero, pow-suc}
+use mathlib.Core.Path.{_≡_, _∙_, refl, sym, ap}
+use Prim.Native.Nat.{ℕ, _≤_, _+_, _<_, _-_, _^_, _*_, suc}
+use lib.ListN.{length, drop, getD, length-drop}
+use mathlib.Core.Bool.{true, false, Bool}
 use native.Mathlib.Omega.{arith}
+use native.Mathlib.Nat.{sub-self, add-zero, pow-suc}
 use borrow.Author.Tests.{ltb-true}
 use lib.Dec.{ltb}
-use lib.ListN.{length, drop, getD, length-drop}
-use Rattle.laws.proofs.Tens.{ten-up, room}
+use Rattle.laws.specs.Texts.{every}
+use Rattle.laws.proofs.Tens.{room, ten-up}
 use Rattle.laws.proofs.Tests.{and-first, and-second}
 use Rattle.number.specs.Bytes.{isDigit, pastAll, digits, number}
-use Rattle.number.specs.Grammar.{every}
-use Rattle.number.specs.Steps.{Past, WholeAt, RunAt, keptOne, keptAll}
+use Rattle.number.specs.Steps.{Past, WholeAt, keptAll, keptOne, RunAt}
 use Rattle.number.specs.declared.decimal.Kept.{Kept}
 use Rattle.number.proofs.Places.{all-turn, all-stop, all-end, digits-turn, digit-range}
 

@@ -1,27 +1,27 @@
 -- The value of a mantissa from its kept digits: `Leads` ties them to the number, and each answer of the code is the definition's.
-use mathlib.Core.Bool.{Bool, true, false, cond, not}
-use mathlib.Core.List.{List, [], _∷_, _++_}
-use mathlib.Core.Path.{_≡_, refl, sym, _∙_, ap, subst}
-use Prim.Native.Nat.{ℕ, zero, suc, _+_, _*_, _-_, _/_, _%_, _^_, _≤_, _<_}
-use native.Mathlib.Nat.{mul-assoc, add-mul, mul-le-mul-left, mul-le-mul-right, mul-lt-mul-of-pos-right, mul-one, mul-mod-left, mul-div-cancel, mod-eq-of-lt, pow-suc, pow-zero, div-add-mod', lt-of-lt-of-le, lt-of-mul-lt-mul-right, eq-of-mul-eq-mul-right, div-lt-iff-lt-mul, div-le-self, zero-mul}
-use native.Mathlib.Decide.{decLe}
-use native.Mathlib.Numerals.{add-one}
+use mathlib.Core.Path.{refl, _≡_, _∙_, sym, ap, subst}
 use native.Mathlib.Omega.{arith}
-use borrow.Author.Tests.{ltb-true, ltb-false, le-leb, lt-leb, ne-eqb, eqb-true, eqb-false, leb-true, leb-false}
+use mathlib.Core.Bool.{Bool, true, cond, not, false}
+use Prim.Native.Nat.{ℕ, zero, suc, _+_, _*_, _^_, _≤_, _<_, _-_, _/_, _%_}
+use borrow.Author.Tests.{ne-eqb, ltb-true, ltb-false, le-leb, lt-leb, eqb-true, eqb-false, leb-true, leb-false}
+use lib.Dec.{eqb, ltb, leb, lit<, lit≤}
+use native.Mathlib.Nat.{mul-assoc, pow-suc, pow-zero, mul-le-mul-left, mul-mod-left, mul-div-cancel, lt-of-mul-lt-mul-right, add-mul, mul-le-mul-right, mul-lt-mul-of-pos-right, mul-one, div-add-mod', eq-of-mul-eq-mul-right, div-lt-iff-lt-mul, div-le-self, zero-mul, mod-eq-of-lt, lt-of-lt-of-le}
+use native.Mathlib.Numerals.{add-one}
+use mathlib.Core.List.{List, [], _∷_, _++_}
+use native.Mathlib.Decide.{decLe}
 use lib.Arith.{digits-mod}
-use lib.Dec.{leb, ltb, eqb, lit<, lit≤}
 use lib.Pow.{pow-add}
+use Rattle.laws.specs.Texts.{every}
 use Rattle.laws.specs.Sign.{signed, _and_}
 use Rattle.laws.specs.Digits.{short}
+use Rattle.laws.proofs.Tests.{and-first, and-second, clash, and-fails-first, and-both}
 use Rattle.laws.proofs.Tens.{ten-pos, ten-up}
-use Rattle.laws.proofs.Tests.{clash, and-both, and-first, and-second, and-fails-first}
-use Rattle.laws.proofs.Shorts.{FewDigits, short-few, few-short}
+use Rattle.laws.proofs.Shorts.{FewDigits, few-short, short-few}
+use Rattle.number.specs.Steps.{Leads, none, keptOne, keptAll, readingOf, upOf, downOf}
+use Rattle.number.specs.declared.decimal.Kept.{Kept}
 use Rattle.number.specs.Bytes.{isDigit, number}
-use Rattle.number.specs.Grammar.{every}
 use Rattle.number.specs.Integer.{read, refused}
 use Rattle.number.specs.Real.{billionths}
-use Rattle.number.specs.Steps.{Leads, keptOne, keptAll, none, readingOf, upOf, downOf}
-use Rattle.number.specs.declared.decimal.Kept.{Kept}
 use Rattle.number.specs.declared.decimal.Scaled.the-variants.{Exact, Refused}
 use Rattle.number.proofs.Places.{digit-range}
 

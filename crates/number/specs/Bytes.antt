@@ -1,8 +1,8 @@
 -- Document 01, "Number fields": the bytes that a field is made of, and what is left of a text past a run of them.
-use mathlib.Core.Bool.{Bool, true, false, cond}
-use mathlib.Core.List.{List, [], _∷_}
+use mathlib.Core.Bool.{Bool, true, cond, false}
 use Prim.Native.Nat.{ℕ, _+_, _*_, _-_}
-use lib.Dec.{leb, eqb}
+use lib.Dec.{eqb, leb}
+use mathlib.Core.List.{List, [], _∷_}
 use Rattle.laws.specs.Sign.{_and_}
 
 -- a blank is byte 32 and no other

@@ -2,16 +2,13 @@
 -- reads by these; that `integer` and `real` say the same, both ways and for every kind, is proved in proofs/Grammar.antt.
 use mathlib.Core.Bool.{Bool, true, false, cond}
 use mathlib.Core.List.{List, [], _∷_, _++_}
+use Prim.Native.Nat.{ℕ, _≤_, _+_, _*_, _^_, _<_}
 use mathlib.Core.Path.{_≡_}
-use Prim.Native.Nat.{ℕ, _+_, _*_, _^_, _≤_, _<_}
-use lib.IntN.{ℤ}
 use lib.ListN.{length}
-use Rattle.laws.specs.Sign.{signed, _and_}
-use Rattle.number.specs.Bytes.{isBlank, isDigit, isLetter, number}
-
-abbrev pub every : (ℕ → Bool) → List ℕ → Bool
-every is [] = true
-every is (c ∷ s) = is c and every is s
+use lib.IntN.{ℤ}
+use Rattle.laws.specs.Texts.{every}
+use Rattle.laws.specs.Sign.{signed}
+use Rattle.number.specs.Bytes.{isBlank, isDigit, number, isLetter}
 
 -- "an optional sign": no byte, 43 (+) or 45 (-), and whether it is a minus
 pub data Sign : List ℕ → Bool → Type 0 where

@@ -1,13 +1,13 @@
 -- Document 01, "Number fields": an integer field, read alone.
-use mathlib.Core.Bool.{Bool, cond, not}
-use mathlib.Core.List.{List}
 use Prim.Native.Nat.{ℕ}
-use lib.IntN.{ℤ, pos}
+use lib.IntN.{pos, ℤ}
+use mathlib.Core.Bool.{cond, Bool, not}
+use mathlib.Core.List.{List}
 use lib.Dec.{leb}
 use lib.ListN.{length}
-use Rattle.laws.specs.Sign.{signed, _and_}
+use Rattle.laws.specs.Sign.{_and_, signed}
 use Rattle.number.specs.declared.Reading.{Reading}
-use Rattle.number.specs.Bytes.{isBlank, isSign, isMinus, isDigit, isEmpty, starts, pastOne, pastAll, digits, number}
+use Rattle.number.specs.Bytes.{isBlank, isSign, pastOne, pastAll, isDigit, isEmpty, digits, isMinus, starts, number}
 
 -- "A refused reading gives its kind .."
 abbrev pub refused : ℕ → Reading

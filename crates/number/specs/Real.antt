@@ -1,13 +1,13 @@
 -- Document 01, "Number fields": a real field, read alone, in billionths.
-use mathlib.Core.Bool.{Bool, true, false, cond, not}
 use mathlib.Core.List.{List, _++_}
 use Prim.Native.Nat.{ℕ, _+_, _*_, _/_, _%_, _^_}
+use mathlib.Core.Bool.{Bool, true, cond, false, not}
 use lib.Dec.{leb, eqb}
 use lib.ListN.{length}
-use Rattle.laws.specs.Sign.{signed, _and_}
+use Rattle.laws.specs.Sign.{_and_, signed}
 use Rattle.laws.specs.Digits.{short}
+use Rattle.number.specs.Bytes.{isPoint, isDigit, pastOne, pastAll, digits, isSign, isLetter, starts, isMinus, number, isBlank, isEmpty}
 use Rattle.number.specs.declared.Reading.{Reading}
-use Rattle.number.specs.Bytes.{isBlank, isMinus, isSign, isPoint, isLetter, isDigit, isEmpty, starts, pastOne, pastAll, digits, number}
 use Rattle.number.specs.Integer.{read, refused, within, unsignedPart}
 
 -- "A real field is blanks, an optional sign, digits with at most one point ..": u is the field past its sign

@@ -1,32 +1,23 @@
 -- How the code walks a field: what its private functions answer. No paper's sentence is stated here; the public promises cite
 -- `integer` and `real` alone.
-use mathlib.Core.Bool.{Bool, true, false, cond, not}
 use mathlib.Core.List.{List, [], _∷_}
 use mathlib.Core.Path.{_≡_}
-use Prim.Native.Nat.{ℕ, _+_, _*_, _-_, _/_, _%_, _^_, _≤_, _<_}
-use lib.Dec.{leb, ltb, eqb}
+use Prim.Native.Nat.{ℕ, _≤_, _^_, _<_, _+_, _*_, _-_, _/_, _%_}
 use lib.ListN.{length, drop}
+use mathlib.Core.Bool.{true, cond, false, not, Bool}
+use lib.Dec.{ltb, eqb, leb}
 use Rattle.laws.specs.Sign.{signed}
 use Rattle.number.specs.Bytes.{isDigit, pastAll, digits, number}
+use Rattle.number.specs.declared.walk.Whole.{Whole}
 use Rattle.number.specs.declared.decimal.Kept.{Kept}
 use Rattle.number.specs.declared.decimal.Run.{Run}
-use Rattle.number.specs.declared.walk.Whole.{Whole}
 use Rattle.number.specs.declared.decimal.Mantissa.{Mantissa}
+use Rattle.number.specs.Real.{mantissaDigits, pastMantissa, fractionPart, pastPower, powerMinus, powerSize, powerForm, billionths}
 use Rattle.number.specs.declared.decimal.Power.{Power}
 use Rattle.number.specs.declared.decimal.Scaled.{Scaled}
 use Rattle.number.specs.declared.decimal.Scaled.the-variants.{Exact, Refused}
 use Rattle.number.specs.declared.Reading.{Reading}
 use Rattle.number.specs.Integer.{read, refused}
-use Rattle.number.specs.Real.{
-  mantissaDigits,
-  pastMantissa,
-  fractionPart,
-  powerForm,
-  pastPower,
-  powerMinus,
-  powerSize,
-  billionths,
-}
 
 -- r is the place past what `after` passes of the text from `from` on
 pub record Past (after : List ℕ → List ℕ) (s : List ℕ) (from r : ℕ) : Type 0 where

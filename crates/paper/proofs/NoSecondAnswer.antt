@@ -1,55 +1,56 @@
 -- No second answer: for every public function, two answers that meet its promise are one; and so are two states of what it was lent.
 -- One law, cited for each.
-use mathlib.Core.Bool.{Bool, cond}
-use mathlib.Core.List.{List}
+use mathlib.Core.List.{List, [], _∷_}
 use mathlib.Core.Path.{_≡_}
 use Prim.Native.Nat.{ℕ, _+_}
-use lib.Dec.{leb}
 use lib.IntN.{ℤ, natAbs}
+use mathlib.Core.Bool.{Bool, cond}
 use lib.ListN.{length, take, drop}
+use lib.Dec.{leb}
+use Rattle.laws.specs.Digits.{short}
+use Rattle.laws.specs.Sign.{notNegative, lesser, greater}
+use Rattle.laws.specs.Texts.{every}
 use Rattle.laws.proofs.Answers.{one-answer}
+use Rattle.numerals.specs.Numerals.{count, minus, fixed, numeral}
+use Rattle.numerals.specs.Pieces.{endAt, putAt}
+use Rattle.words.specs.Words.{numberAt, cellAt}
 use Rattle.number.specs.declared.Reading.{Reading}
-use Rattle.number.specs.Bytes.{isBlank}
-use Rattle.number.specs.Grammar.{every}
 use Rattle.number.specs.Integer.{integer}
 use Rattle.number.specs.Real.{real}
 use Rattle.number.specs.Tens.{tenTo}
+use Rattle.number.specs.Bytes.{isBlank}
 use Rattle.label.specs.Label.{originOf, nameLength}
-use Rattle.spell.specs.Spell.{integerText, integerFits, realText, realFits}
-use Rattle.sheet.specs.Lattice.{latticeOf, placeOf, notNegative}
-use Rattle.sheet.specs.RecordA.{
-  recordA,
-  limits,
-  zoneLimits,
-  groundLimits,
-  heightLimits,
-  inRange,
-  ranged,
-  lesser,
-  greater,
-  west,
-  east,
-  south,
-  north,
-  wholeFault,
-  checkedKind,
-  checkedByte,
-}
-use Rattle.sheet.specs.declared.lattice.Lattice.{Lattice}
-use Rattle.sheet.specs.declared.lattice.Place.{Place}
-use Rattle.sheet.specs.declared.record_a.Checked.{Checked}
-use Rattle.sheet.specs.declared.record_a.Fault.{Fault}
-use Rattle.sheet.specs.declared.record_a.Header.{Header}
-use Rattle.sheet.specs.declared.record_a.Limits.{Limits}
+use Rattle.lattice.specs.Lattice.{latticeOf, placeOf}
+use Rattle.lattice.specs.declared.Lattice.{Lattice}
+use Rattle.lattice.specs.declared.Place.{Place}
+use Rattle.field.specs.Field.{limits, inRange, ranged}
+use Rattle.field.specs.declared.Limits.{Limits}
+use Rattle.field.specs.declared.Fault.{Fault}
+use Rattle.frame.specs.Frame.{west, east, south, north, wholeFault}
+use Rattle.frame.specs.declared.Header.{Header}
+use Rattle.heading.specs.Heading.{zoneLimits, groundLimits, heightLimits, headerOf}
+use Rattle.sheet.specs.RecordA.{recordA, checkedKind, checkedByte}
+use Rattle.sheet.specs.declared.Checked.{Checked}
 use Rattle.profile.specs.RecordB.{recordB}
-use Rattle.profile.specs.RecordC.{recordC}
 use Rattle.profile.specs.declared.record_b.Headed.{Headed}
-use Rattle.session.specs.Session.{fresh, sound}
+use Rattle.profile.specs.RecordC.{recordC}
+use Rattle.session.specs.Session.{fresh, sound, complete}
 use Rattle.session.specs.declared.Session.{Session}
-use Rattle.load.specs.Deliver.{complete, deliverOf, cellsAfter}
-use Rattle.load.specs.declared.Delivered.{Delivered}
-use Rattle.lines.specs.Lines.{reportText, refusedText, unfinishedText, endText, used, written}
-use Rattle.written.specs.Sending.{blockFault, blockAfter, countOf}
+use Rattle.ground.specs.Posts.{blocksFor}
+use Rattle.ground.specs.Extremes.{leastStated, greatestStated}
+use Rattle.spell.specs.Spell.{integerFits, integerText, realFits, realText}
+use Rattle.delivery.specs.Deliver.{lend, deliverOf, lentAfter}
+use Rattle.delivery.specs.declared.Delivered.{Delivered}
+use Rattle.lines.specs.Lines.{reportText, used, written, refusedText, unfinishedText, endText}
+use Rattle.listing.specs.Turns.{turn, stepOf, cellsOf, lastText}
+use Rattle.listing.specs.declared.Turn.{Turn}
+use Rattle.written.specs.Cells.{canSend, sendable, postOf, firstRow, profileCells}
+use Rattle.written.specs.Sending.{sheetFault, countOf, blockFault, blockAfter}
+use Rattle.columns.specs.declared.Column.{Column}
+use Rattle.columns.specs.declared.Extremes.{Extremes}
+use Rattle.columns.specs.Judging.{judgedBy}
+use Rattle.columns.specs.declared.judging.Judged.{Judged}
+use Rattle.paint.specs.Fields.{firstAfter, furtherAfter, zeroAfter}
 use Rattle.send.specs.SendSteps.{sentBy, sheetSentFault, sheetAfter}
 use Rattle.send.specs.declared.Sent.{Sent}
 
@@ -64,6 +65,48 @@ ten-to k = one-answer
 
 pub size-of : (z : ℤ) {a b : ℕ} → a ≡ natAbs z → b ≡ natAbs z → a ≡ b
 size-of z = one-answer
+
+pub number-at : (text : List ℕ) (at : ℕ) {a b : ℕ} → a ≡ numberAt text at → b ≡ numberAt text at → a ≡ b
+number-at text at = one-answer
+
+pub cell-at : (text : List ℕ) (at : ℕ) {a b : ℤ} → a ≡ cellAt text at → b ≡ cellAt text at → a ≡ b
+cell-at text at = one-answer
+
+pub count-of : (none k n : ℕ) {a b : ℕ} → a ≡ count none k n → b ≡ count none k n → a ≡ b
+count-of none k n = one-answer
+
+pub is-short : (digits size : ℕ) {a b : Bool} → a ≡ short 18 digits size → b ≡ short 18 digits size → a ≡ b
+is-short digits size = one-answer
+
+pub put-byte : (byte : ℕ) (at : ℕ) (text : List ℕ) {a b : ℕ} → a ≡ endAt at (byte ∷ []) text → b ≡ endAt at (byte ∷ []) text → a ≡ b
+put-byte byte at text = one-answer
+
+pub put-byte-bytes : (byte : ℕ) (at : ℕ) (text : List ℕ) {a b : List ℕ} → a ≡ putAt at (byte ∷ []) text → b ≡ putAt at (byte ∷ []) text → a ≡ b
+put-byte-bytes byte at text = one-answer
+
+pub put-word : (word : List ℕ) (at : ℕ) (text : List ℕ) {a b : ℕ} → a ≡ endAt at word text → b ≡ endAt at word text → a ≡ b
+put-word word at text = one-answer
+
+pub put-word-bytes : (word : List ℕ) (at : ℕ) (text : List ℕ) {a b : List ℕ} → a ≡ putAt at word text → b ≡ putAt at word text → a ≡ b
+put-word-bytes word at text = one-answer
+
+pub put-minus : (z : ℤ) (at : ℕ) (text : List ℕ) {a b : ℕ} → a ≡ endAt at (minus z) text → b ≡ endAt at (minus z) text → a ≡ b
+put-minus z at text = one-answer
+
+pub put-minus-bytes : (z : ℤ) (at : ℕ) (text : List ℕ) {a b : List ℕ} → a ≡ putAt at (minus z) text → b ≡ putAt at (minus z) text → a ≡ b
+put-minus-bytes z at text = one-answer
+
+pub put-digits : (k n : ℕ) (at : ℕ) (text : List ℕ) {a b : ℕ} → a ≡ endAt at (fixed k n) text → b ≡ endAt at (fixed k n) text → a ≡ b
+put-digits k n at text = one-answer
+
+pub put-digits-bytes : (k n : ℕ) (at : ℕ) (text : List ℕ) {a b : List ℕ} → a ≡ putAt at (fixed k n) text → b ≡ putAt at (fixed k n) text → a ≡ b
+put-digits-bytes k n at text = one-answer
+
+pub put-number : (n : ℕ) (at : ℕ) (text : List ℕ) {a b : ℕ} → a ≡ endAt at (numeral n) text → b ≡ endAt at (numeral n) text → a ≡ b
+put-number n at text = one-answer
+
+pub put-number-bytes : (n : ℕ) (at : ℕ) (text : List ℕ) {a b : List ℕ} → a ≡ putAt at (numeral n) text → b ≡ putAt at (numeral n) text → a ≡ b
+put-number-bytes n at text = one-answer
 
 pub write-integer : (value : ℤ) (field : List ℕ) {a b : Bool} → a ≡ integerFits (length field) value → b ≡ integerFits (length field) value → a ≡ b
 write-integer value field = one-answer
@@ -152,10 +195,10 @@ new = one-answer
 pub is-sound : (s : Session) {a b : Bool} → a ≡ sound s → b ≡ sound s → a ≡ b
 is-sound s = one-answer
 
-pub deliver : (s : Session) (number : ℕ) (block : List ℕ) (grid : List ℤ) {a b : Delivered} → a ≡ deliverOf s number block grid → b ≡ deliverOf s number block grid → a ≡ b
+pub deliver : (s : Session) (number : ℕ) (block : List ℕ) (grid : List ℤ) {a b : Delivered} → a ≡ deliverOf s number block (lend grid) → b ≡ deliverOf s number block (lend grid) → a ≡ b
 deliver s number block grid = one-answer
 
-pub deliver-grid : (s : Session) (number : ℕ) (block : List ℕ) (grid : List ℤ) {a b : List ℤ} → a ≡ cellsAfter s number block grid → b ≡ cellsAfter s number block grid → a ≡ b
+pub deliver-grid : (s : Session) (number : ℕ) (block : List ℕ) (grid : List ℤ) {a b : List ℤ} → a ≡ lentAfter s number block (lend grid) .grid → b ≡ lentAfter s number block (lend grid) .grid → a ≡ b
 deliver-grid s number block grid = one-answer
 
 pub dem-integer-kind : (field : List ℕ) {a b : ℕ} → a ≡ integer field .kind → b ≡ integer field .kind → a ≡ b
@@ -181,6 +224,43 @@ dem-origin block = one-answer
 
 pub dem-name-length : (block : List ℕ) {a b : ℕ} → a ≡ nameLength block → b ≡ nameLength block → a ≡ b
 dem-name-length block = one-answer
+
+pub can-send : (z : ℕ) (cell : ℤ) {a b : Bool} → a ≡ canSend z cell → b ≡ canSend z cell → a ≡ b
+can-send z cell = one-answer
+
+pub count-sendable : (z : ℕ) (cells : List ℤ) {a b : ℕ} → a ≡ sendable z cells → b ≡ sendable z cells → a ≡ b
+count-sendable z cells = one-answer
+
+pub post-of : (z : ℕ) (cell : ℤ) {a b : ℤ} → a ≡ postOf z cell → b ≡ postOf z cell → a ≡ b
+post-of z cell = one-answer
+
+pub blocks-for : (posts : ℕ) {a b : ℕ} → a ≡ blocksFor posts → b ≡ blocksFor posts → a ≡ b
+blocks-for posts = one-answer
+
+-- an answer of two numbers, by each of them
+pub scan-column : (column : List ℤ) {a b : Column} → (a .row ≡ firstRow column) × (a .posts ≡ length (profileCells column))
+    → (b .row ≡ firstRow column) × (b .posts ≡ length (profileCells column)) → a ≡ b
+scan-column column p q = λ i. record { row = one-answer (p .0) (q .0) i; posts = one-answer (p .1) (q .1) i }
+
+pub extremes-of : (cells : List ℤ) {a b : Extremes} → (a .least ≡ leastStated cells) × (a .greatest ≡ greatestStated cells)
+    → (b .least ≡ leastStated cells) × (b .greatest ≡ greatestStated cells) → a ≡ b
+extremes-of cells p q = λ i. record { least = one-answer (p .0) (q .0) i; greatest = one-answer (p .1) (q .1) i }
+
+pub judge-sheet : (template : List ℕ) (grid : List ℤ) {a b : Judged} → a ≡ judgedBy (headerOf template) (sheetFault template grid)
+    → b ≡ judgedBy (headerOf template) (sheetFault template grid) → a ≡ b
+judge-sheet template grid = one-answer
+
+pub write-first-bytes : (number posts : ℕ) (x y least greatest : ℤ) (z : ℕ) (cells : List ℤ) (block : List ℕ) {a b : List ℕ}
+    → a ≡ firstAfter number posts x y least greatest z cells block → b ≡ firstAfter number posts x y least greatest z cells block → a ≡ b
+write-first-bytes number posts x y least greatest z cells block = one-answer
+
+pub write-further-bytes : (z : ℕ) (cells : List ℤ) (block : List ℕ) {a b : List ℕ} → a ≡ furtherAfter z cells block
+    → b ≡ furtherAfter z cells block → a ≡ b
+write-further-bytes z cells block = one-answer
+
+pub write-zero-bytes : (template : List ℕ) (h : Header) (least greatest : ℤ) (columns : ℕ) (block : List ℕ) {a b : List ℕ}
+    → a ≡ zeroAfter template h least greatest columns block → b ≡ zeroAfter template h least greatest columns block → a ≡ b
+write-zero-bytes template h least greatest columns block = one-answer
 
 pub block-count : (template : List ℕ) (grid : List ℤ) {a b : ℕ} → a ≡ countOf template grid → b ≡ countOf template grid → a ≡ b
 block-count template grid = one-answer
@@ -227,3 +307,20 @@ put-end s out = one-answer
 
 pub put-end-bytes : (s : Session) (out : List ℕ) {a b : List ℕ} → a ≡ written (endText s) out → b ≡ written (endText s) out → a ≡ b
 put-end-bytes s out = one-answer
+
+pub begin : {a b : Turn} → a ≡ turn fresh 0 0 0 0 → b ≡ turn fresh 0 0 0 0 → a ≡ b
+begin = one-answer
+
+pub take-block : (s : Session) (number : ℕ) (block : List ℕ) (grid : List ℤ) {a b : Turn} → a ≡ stepOf s number block grid
+    → b ≡ stepOf s number block grid → a ≡ b
+take-block s number block grid = one-answer
+
+pub take-block-grid : (s : Session) (number : ℕ) (block : List ℕ) (grid : List ℤ) {a b : List ℤ} → a ≡ cellsOf s number block grid
+    → b ≡ cellsOf s number block grid → a ≡ b
+take-block-grid s number block grid = one-answer
+
+pub put-last : (t : Turn) (out : List ℕ) {a b : ℕ} → a ≡ used (lastText t) out → b ≡ used (lastText t) out → a ≡ b
+put-last t out = one-answer
+
+pub put-last-bytes : (t : Turn) (out : List ℕ) {a b : List ℕ} → a ≡ written (lastText t) out → b ≡ written (lastText t) out → a ≡ b
+put-last-bytes t out = one-answer

@@ -1,15 +1,15 @@
 -- Document 01, "Examples on the edge": the examples marked *, one table. A row says what is asked and what the paper tells.
-use mathlib.Core.List.{List, [], _∷_}
-use mathlib.Core.Path.{_≡_}
-use Prim.Native.Nat.{ℕ, _*_, _/_, _^_}
+use Prim.Native.Nat.{ℕ, _/_, _^_, _*_}
 use Prim.Native.String.{String}
-use lib.IntN.{ℤ, pos, negsuc, negℤ, _*ℤ_}
+use lib.IntN.{ℤ, pos, _*ℤ_, negsuc, negℤ}
+use mathlib.Core.Path.{_≡_}
+use mathlib.Core.List.{List, [], _∷_}
 use Rattle.laws.specs.Texts.{bytes}
 use Rattle.number.specs.declared.Reading.{Reading}
 use Rattle.number.specs.Integer.{integer, read, refused}
 use Rattle.number.specs.Real.{real}
-use Rattle.sheet.specs.Lattice.{firstMultiple, lastMultiple}
-use Rattle.load.specs.Posts.{blocksFor, height}
+use Rattle.lattice.specs.Lattice.{firstMultiple, lastMultiple}
+use Rattle.ground.specs.Posts.{blocksFor, height}
 
 pub data Example : Type 0 where
   integerField : String → Reading → Example

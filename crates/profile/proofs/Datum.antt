@@ -1,19 +1,19 @@
 -- The datum's tests and its hundredths, as the machine divides a number with a sign.
-use mathlib.Core.Bool.{true, false}
-use mathlib.Core.Path.{_≡_, refl, sym, _∙_, ap, subst}
-use Prim.Native.Nat.{ℕ, zero, suc, _/_, _%_, _^_, _≤_}
-use native.Mathlib.Nat.{div-le-self, lt-of-le-of-lt}
+use Prim.Native.Nat.{ℕ, zero, suc, _≤_, _/_, _^_, _%_}
 use native.Mathlib.Omega.{arith}
-use borrow.Author.Tests.{ltb-true, ltb-false, le-leb, lt-leb, eq-eqb, ne-eqb}
-use lib.Dec.{leb, eqb}
-use lib.IntN.{ℤ, pos, negsuc, negℤ, natAbs}
-use lib.Signed.{mag, ltZ, leZ, quotZ, remZ, mag-rem}
+use lib.IntN.{pos, negℤ, ℤ, negsuc, natAbs}
+use lib.Signed.{mag, quotZ, remZ, ltZ, leZ, mag-rem}
+use native.Mathlib.Nat.{div-le-self, lt-of-le-of-lt}
 use mir.Syntax.{Width, w64}
 use mir.Val.{SFits, toZ, ofZ}
+use mathlib.Core.Path.{_≡_, refl, ap, sym, _∙_, subst}
+use mathlib.Core.Bool.{true, false}
+use borrow.Author.Tests.{ltb-true, lt-leb, ltb-false, le-leb, eq-eqb, ne-eqb}
+use lib.Dec.{leb, eqb}
 use mir.Facts.{toZ-ofZ}
 use Rattle.laws.proofs.Integers.{size-minus}
 use Rattle.laws.proofs.Tests.{clash, and-fails-first, and-fails-second}
-use Rattle.profile.specs.RecordB.{isDatum, hundredths}
+use Rattle.profile.specs.RecordB.{hundredths, isDatum}
 
 turned-size : (n a : ℕ) → n ≤ suc a → mag (negℤ (pos n)) ≤ a
 turned-size zero a h = omega arith

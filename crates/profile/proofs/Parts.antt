@@ -1,16 +1,16 @@
 -- A field's stretch as the code cuts it out, and an error's value by the machine's tests of its sign.
-use mathlib.Core.Bool.{true, false}
 use mathlib.Core.List.{List}
-use mathlib.Core.Path.{_≡_, refl, ap}
+use mathlib.Core.Path.{_≡_, ap, refl}
 use Prim.Native.Nat.{ℕ, _+_, _-_, _<_}
 use native.Mathlib.Omega.{arith}
-use borrow.Author.Tests.{ltb-true, ltb-false, le-ltb, eq-eqb, ne-eqb}
-use lib.IntN.{ℤ, pos, negsuc}
 use lib.ListN.{take, drop}
+use borrow.Author.Tests.{le-ltb, ltb-true, ne-eqb, ltb-false, eq-eqb}
+use lib.IntN.{ℤ, pos, negsuc}
 use lib.Signed.{ltZ}
+use mathlib.Core.Bool.{true, false}
 use Rattle.laws.specs.Sign.{isZero}
 use Rattle.laws.proofs.Tests.{clash}
-use Rattle.sheet.specs.RecordA.{stretch}
+use Rattle.field.specs.Field.{stretch}
 use Rattle.profile.specs.RecordC.{isNegative}
 
 pub cut-out : (width byte : ℕ) (block : List ℕ)

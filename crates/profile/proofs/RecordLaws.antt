@@ -1,30 +1,28 @@
 -- A head is answered, and a record C passes, exactly when the block is 1,024 bytes and no field is at fault; and the bounds of what a head says.
-use mathlib.Core.Bool.{Bool, true, cond}
 use mathlib.Core.List.{List, [], _∷_}
-use mathlib.Core.Logic.{_↔_}
 use mathlib.Core.Path.{_≡_, refl, sym, ap, subst}
-use Prim.Native.Nat.{ℕ, suc, _*_, _/_, _%_, _^_, _≤_}
-use native.Mathlib.Nat.{div-le-of-le-mul}
+use borrow.Author.Tests.{eqb-true, eqb-false, eq-eqb, leb-true}
+use lib.Dec.{eqb, leb}
+use mathlib.Core.Bool.{Bool, true, cond}
+use mathlib.Core.Logic.{_↔_}
+use Prim.Native.Nat.{ℕ, _%_, _≤_, suc, _/_, _^_, _*_}
 use native.Mathlib.Omega.{arith}
-use borrow.Author.Tests.{leb-true, eqb-true, eqb-false, eq-eqb}
-use lib.Dec.{leb, eqb}
-use lib.IntN.{ℤ, pos, negsuc, natAbs}
 use lib.ListN.{length, drop}
-use Rattle.laws.specs.Sign.{_and_}
+use lib.IntN.{ℤ, pos, negsuc, natAbs}
+use native.Mathlib.Nat.{div-le-of-le-mul}
+use Rattle.laws.specs.Texts.{every}
+use Rattle.laws.specs.Sign.{_and_, notNegative}
+use Rattle.laws.proofs.Tests.{by-test, clash, and-first, and-second}
 use Rattle.laws.proofs.Integers.{size-minus}
-use Rattle.laws.proofs.Tests.{clash, and-first, and-second}
-use Rattle.number.specs.declared.Reading.{Reading}
 use Rattle.number.specs.Bytes.{isBlank}
-use Rattle.number.specs.Grammar.{every}
-use Rattle.number.specs.Integer.{integer, refused}
+use Rattle.number.specs.declared.Reading.{Reading}
+use Rattle.number.specs.Integer.{refused, integer}
 use Rattle.number.specs.Real.{real}
-use Rattle.number.proofs.GrammarParts.{by-test}
 use Rattle.number.proofs.Limits.{Limited, real-limits}
-use Rattle.sheet.specs.Lattice.{notNegative}
-use Rattle.sheet.specs.RecordA.{inLimits, limits, stretch, fault, realAt}
-use Rattle.sheet.specs.declared.record_a.Limits.{Limits}
-use Rattle.sheet.specs.declared.record_a.Fault.{Fault}
-use Rattle.profile.specs.RecordB.{Judged, firstOf, headFields, headFault, headOf, recordB, isDatum, hundredths}
+use Rattle.field.specs.Field.{Judged, firstOf, fault, inLimits, limits, stretch, realAt}
+use Rattle.field.specs.declared.Fault.{Fault}
+use Rattle.field.specs.declared.Limits.{Limits}
+use Rattle.profile.specs.RecordB.{headFields, headFault, headOf, recordB, hundredths, isDatum}
 use Rattle.profile.specs.RecordC.{fieldsC, restBlank, recordC}
 use Rattle.profile.specs.declared.record_b.Head.{Head}
 use Rattle.profile.specs.declared.record_b.Headed.the-variants.{Profile, Refused}

@@ -1,18 +1,18 @@
 -- The verdict on a head and on a record C, by what the code found.
-use mathlib.Core.Bool.{Bool, true, false, cond}
+use mathlib.Core.Bool.{true, false, Bool, cond}
 use mathlib.Core.List.{List}
 use mathlib.Core.Path.{_≡_, sym, _∙_, ap}
 use Prim.Native.Nat.{ℕ}
 use borrow.Author.Tests.{eq-eqb, ne-eqb}
 use lib.Dec.{eqb}
 use lib.ListN.{length, drop}
+use Rattle.laws.specs.Texts.{every}
 use Rattle.number.specs.Bytes.{isBlank}
-use Rattle.number.specs.Grammar.{every}
-use Rattle.sheet.specs.RecordA.{fault}
-use Rattle.sheet.specs.declared.record_a.Fault.{Fault}
-use Rattle.profile.specs.RecordB.{recordB, headFields, headOf, firstOf}
-use Rattle.profile.specs.RecordC.{recordC, fieldsC}
+use Rattle.field.specs.declared.Fault.{Fault}
+use Rattle.field.specs.Field.{firstOf, fault}
+use Rattle.profile.specs.RecordB.{recordB, headFields, headOf}
 use Rattle.profile.specs.declared.record_b.Headed.the-variants.{Profile, Refused}
+use Rattle.profile.specs.RecordC.{recordC, fieldsC}
 
 module _ (number : ℕ) (block : List ℕ) where
   pub head-length : (length block ≡ 1024 → ⊥) → Refused 1 0 ≡ recordB number block

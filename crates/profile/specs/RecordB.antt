@@ -1,16 +1,16 @@
 -- Document 01, "Record B (one profile)": the fields at the head of a profile's first block.
 use mathlib.Core.Bool.{Bool, cond}
-use mathlib.Core.List.{List, [], _∷_}
-use Prim.Native.Nat.{ℕ, _*_, _%_, _/_, _^_}
-use lib.IntN.{ℤ, pos, negsuc, natAbs, negℤ}
+use Prim.Native.Nat.{_*_, _%_, _^_, ℕ, _/_}
+use lib.IntN.{ℤ, natAbs, pos, negsuc, negℤ}
 use lib.Dec.{leb, eqb}
+use mathlib.Core.List.{List, [], _∷_}
 use lib.ListN.{length}
 use Rattle.laws.specs.Sign.{_and_}
 use Rattle.number.specs.declared.Reading.{Reading}
-use Rattle.number.specs.Integer.{integer, refused}
+use Rattle.number.specs.Integer.{refused, integer}
 use Rattle.number.specs.Real.{real}
-use Rattle.sheet.specs.RecordA.{stretch, limits, ranged, wholeAt, realAt, fault}
-use Rattle.sheet.specs.declared.record_a.Fault.{Fault}
+use Rattle.field.specs.Field.{stretch, limits, ranged, at, Judged, wholeAt, realAt, fault, firstOf}
+use Rattle.field.specs.declared.Fault.{Fault}
 use Rattle.profile.specs.declared.record_b.Head.{Head}
 use Rattle.profile.specs.declared.record_b.Headed.{Headed}
 use Rattle.profile.specs.declared.record_b.Headed.the-variants.{Profile, Refused}
@@ -21,14 +21,6 @@ isDatum z = eqb (natAbs z % 10 ^ 7) 0 and leb (natAbs z) (10000 * 10 ^ 9)
 
 abbrev pub datumField : Reading → Reading
 datumField r = cond (eqb (r .kind) 0) (cond (isDatum (r .value)) r (refused 7)) r
-
--- one field: its first byte and its judged reading
-pub record Judged : Type 0 where
-  pub byte : ℕ
-  pub reading : Reading
-
-abbrev pub at : ℕ → Reading → Judged
-at byte reading = record { byte = byte; reading = reading }
 
 -- the nine fields, in their order; the profile's number is counted from 1
 abbrev pub headFields : ℕ → List ℕ → List Judged
@@ -43,11 +35,6 @@ headFields number block =
     ∷ at 97 (real (stretch 97 24 block))
     ∷ at 121 (real (stretch 121 24 block))
     ∷ []
-
--- the first fault by byte; kind 0 where there is none
-abbrev pub firstOf : List Judged → Fault
-firstOf [] = fault 0 0
-firstOf (j ∷ js) = cond (eqb (j .reading .kind) 0) (firstOf js) (fault (j .reading .kind) (j .byte))
 
 -- billionths that are whole hundredths, as hundredths
 abbrev pub hundredths : ℤ → ℤ

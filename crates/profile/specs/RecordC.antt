@@ -1,18 +1,17 @@
 -- Document 01, "Record C, only with accuracy 1, is one block of ten six-byte integers (002), then blanks".
-use mathlib.Core.Bool.{Bool, true, false, cond, not}
 use mathlib.Core.List.{List, [], _∷_, _++_}
 use Prim.Native.Nat.{ℕ, _+_}
+use mathlib.Core.Bool.{Bool, true, false, cond, not}
 use lib.IntN.{ℤ, pos, negsuc}
 use lib.Dec.{eqb}
-use lib.ListN.{length, drop}
+use lib.ListN.{drop, length}
 use Rattle.laws.specs.Sign.{isZero, _and_}
+use Rattle.laws.specs.Texts.{every}
+use Rattle.number.specs.Integer.{integer, refused}
 use Rattle.number.specs.declared.Reading.{Reading}
 use Rattle.number.specs.Bytes.{isBlank}
-use Rattle.number.specs.Grammar.{every}
-use Rattle.number.specs.Integer.{integer, refused}
-use Rattle.sheet.specs.RecordA.{stretch, limits, ranged, wholeAt, fault}
-use Rattle.sheet.specs.declared.record_a.Fault.{Fault}
-use Rattle.profile.specs.RecordB.{Judged, at, firstOf}
+use Rattle.field.specs.Field.{stretch, limits, ranged, Judged, at, wholeAt, fault, firstOf}
+use Rattle.field.specs.declared.Fault.{Fault}
 
 -- "Codes 0 or 1 (9)"
 abbrev pub codeField : ℕ → List ℕ → Judged

@@ -1,31 +1,25 @@
 -- How the code judges a block: its fields from the last to the first, each before those behind it. No paper's sentence is
 -- stated here; the public promises cite `recordB` and `recordC` alone.
-use mathlib.Core.Bool.{cond}
 use mathlib.Core.List.{List}
 use mathlib.Core.Path.{_≡_}
 use Prim.Native.Nat.{ℕ, _+_, _≤_}
-use lib.Dec.{eqb}
 use lib.ListN.{length}
+use Rattle.laws.specs.Sign.{notNegative}
+use Rattle.number.specs.Real.{real}
 use Rattle.number.specs.declared.Reading.{Reading}
 use Rattle.number.specs.Integer.{integer}
-use Rattle.number.specs.Real.{real}
-use Rattle.sheet.specs.Lattice.{notNegative}
-use Rattle.sheet.specs.RecordA.{stretch, limits, ranged, wholeAt, fault}
-use Rattle.sheet.specs.declared.record_a.Fault.{Fault}
-use Rattle.profile.specs.RecordB.{datumField, hundredths}
-use Rattle.profile.specs.RecordC.{errorReading}
-use Rattle.profile.specs.declared.record_b.Head.{Head}
+use Rattle.field.specs.Field.{stretch, fault, faultOr, limits, ranged, wholeAt}
+use Rattle.field.specs.declared.Fault.{Fault}
 use Rattle.profile.specs.declared.record_b.Reals.{Reals}
+use Rattle.profile.specs.RecordB.{datumField, hundredths}
+use Rattle.profile.specs.declared.record_b.Head.{Head}
+use Rattle.profile.specs.RecordC.{errorReading}
 
 -- a stretch of this width, from a byte counted from 1, lies in a block of the right length
 pub record Inside (width : ℕ) (block : List ℕ) (byte : ℕ) : Type 0 where
   pub long : length block ≡ 1024
   pub from : 1 ≤ byte
   pub to : byte + width ≤ 1025
-
--- the fault of a field, or the first of those behind it
-abbrev pub faultOr : Reading → ℕ → Fault → Fault
-faultOr r byte rest = cond (eqb (r .kind) 0) rest (fault (r .kind) byte)
 
 abbrev pub realsOf : List ℕ → Reals
 realsOf block =

@@ -1,14 +1,10 @@
 // The nine fields at the head of a profile's first block.
-use crate::fields;
+use field::Fault;
 use number::Reading;
-use sheet::record_a;
-use sheet::record_a::Fault;
 ghost use mathlib.Core.Path.{_≡_};
 ghost use lib.ListN.{length};
-ghost use Rattle.number.specs.Real.{real};
-ghost use Rattle.sheet.specs.RecordA.{stretch};
 ghost use Rattle.profile.specs.RecordB.{recordB, isDatum, datumField, hundredths};
-ghost use Rattle.profile.specs.Steps.{Inside, realsOf, realsFault, countsFault, headFrom};
+ghost use Rattle.profile.specs.Steps.{realsOf, realsFault, countsFault, headFrom};
 
 // What the head says: posts, the southern post's place and the stated extremes in billionths, the datum in hundredths.
 pub struct Head {
@@ -34,25 +30,16 @@ struct Reals {
     greatest: Reading,
 }
 
-fn real_at(block: &[u8], byte: usize) -> Reading
-    requires { ⌜ Inside 24 (now block) byte ⌝ }
-    ensures { λ r. ⌜ r ≡ real (stretch byte 24 (now (block .entry))) ⌝ }
-{
-    let start = byte - 1;
-    let end = start + 24;
-    number::read_real(&block[start..end])
-}
-
 fn read_reals(block: &[u8]) -> Reals
     requires { ⌜ length (now block) ≡ 1024 ⌝ }
     ensures { λ r. ⌜ r ≡ realsOf (now (block .entry)) ⌝ }
 {
     Reals {
-        x: real_at(block, 25),
-        y: real_at(block, 49),
-        datum: real_at(block, 73),
-        least: real_at(block, 97),
-        greatest: real_at(block, 121),
+        x: field::real_at(block, 25),
+        y: field::real_at(block, 49),
+        datum: field::real_at(block, 73),
+        least: field::real_at(block, 97),
+        greatest: field::real_at(block, 121),
     }
 }
 
@@ -84,11 +71,11 @@ fn judge_datum(r: Reading) -> Reading
 fn reals_fault(s: Reals) -> Fault
     ensures { λ f. ⌜ f ≡ realsFault s ⌝ }
 {
-    let greatest = fields::fault_or(s.greatest, 121, fields::no_fault());
-    let least = fields::fault_or(s.least, 97, greatest);
-    let datum = fields::fault_or(judge_datum(s.datum), 73, least);
-    let y = fields::fault_or(s.y, 49, datum);
-    fields::fault_or(s.x, 25, y)
+    let greatest = field::fault_or(s.greatest, 121, field::no_fault());
+    let least = field::fault_or(s.least, 97, greatest);
+    let datum = field::fault_or(judge_datum(s.datum), 73, least);
+    let y = field::fault_or(s.y, 49, datum);
+    field::fault_or(s.x, 25, y)
 }
 
 // The four integers; the posts were read before.
@@ -96,11 +83,11 @@ fn counts_fault(number: u64, block: &[u8], posts: Reading, rest: Fault) -> Fault
     requires { ⌜ length (now block) ≡ 1024 ⌝ }
     ensures { λ f. ⌜ f ≡ countsFault number (now (block .entry)) posts rest ⌝ }
 {
-    let one = record_a::limits_of(1, 1, 1, 9);
-    let last = fields::judge_at(one, block, 19, rest);
-    let many = fields::judge(record_a::limits_of(1, 2048, 1, 7), posts, 13, last);
-    let numbered = fields::judge_at(record_a::limits_of(number, number, 1, 9), block, 7, many);
-    fields::judge_at(one, block, 1, numbered)
+    let one = field::limits_of(1, 1, 1, 9);
+    let last = field::judge_at(one, block, 19, rest);
+    let many = field::judge(field::limits_of(1, 2048, 1, 7), posts, 13, last);
+    let numbered = field::judge_at(field::limits_of(number, number, 1, 9), block, 7, many);
+    field::judge_at(one, block, 1, numbered)
 }
 
 fn in_hundredths(z: i64) -> i64
@@ -118,7 +105,7 @@ fn head_from(posts: Reading, s: Reals) -> Head
     let least = s.least;
     let greatest = s.greatest;
     Head {
-        posts: record_a::not_negative(posts.value),
+        posts: figures::not_negative(posts.value),
         x: x.value,
         y: y.value,
         datum: in_hundredths(datum.value),
@@ -134,7 +121,7 @@ pub fn read_head(number: u64, block: &[u8]) -> Headed
     if block.len() != 1024 {
         return Headed::Refused(1, 0);
     }
-    let posts = fields::integer_at(block, 13);
+    let posts = field::integer_at(block, 13);
     let s = read_reals(block);
     let f = counts_fault(number, block, posts, reals_fault(s));
     if f.kind != 0 {

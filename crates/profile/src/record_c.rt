@@ -1,13 +1,12 @@
 // Record C, judged whole.
-use crate::fields;
+use field::Fault;
 use number::Reading;
-use sheet::record_a;
-use sheet::record_a::Fault;
 ghost use mathlib.Core.Path.{_≡_};
+ghost use Prim.Native.Nat.{_≤_};
 ghost use Rattle.number.specs.Integer.{integer};
-ghost use Rattle.sheet.specs.RecordA.{stretch};
+ghost use Rattle.field.specs.Field.{stretch, faultOr};
 ghost use Rattle.profile.specs.RecordC.{recordC, errorReading};
-ghost use Rattle.profile.specs.Steps.{Inside, faultOr, halfFault};
+ghost use Rattle.profile.specs.Steps.{halfFault};
 
 // An error or a count that was read, under its half's code.
 fn judge_error(code: u64, r: Reading) -> Reading
@@ -29,11 +28,10 @@ fn judge_error(code: u64, r: Reading) -> Reading
 }
 
 fn error_at(code: u64, block: &[u8], byte: u32, rest: Fault) -> Fault
-    requires { ⌜ Inside 6 (now block) byte ⌝ }
     ensures { λ f. ⌜ f ≡ faultOr (errorReading code (integer (stretch byte 6 (now (block .entry))))) byte rest ⌝ }
 {
-    fields::fault_or(
-        judge_error(code, fields::integer_at(block, byte)),
+    field::fault_or(
+        judge_error(code, field::integer_at(block, byte)),
         byte,
         rest,
     )
@@ -41,16 +39,16 @@ fn error_at(code: u64, block: &[u8], byte: u32, rest: Fault) -> Fault
 
 // Code, three errors and count, from a byte.
 fn half_fault(block: &[u8], byte: u32, rest: Fault) -> Fault
-    requires { ⌜ Inside 30 (now block) byte ⌝ }
+    requires { ⌜ byte ≤ 31 ⌝ }
     ensures { λ f. ⌜ f ≡ halfFault byte (now (block .entry)) rest ⌝ }
 {
-    let r = fields::integer_at(block, byte);
-    let code = record_a::not_negative(r.value);
+    let r = field::integer_at(block, byte);
+    let code = figures::not_negative(r.value);
     let count = error_at(code, block, byte + 24, rest);
     let third = error_at(code, block, byte + 18, count);
     let second = error_at(code, block, byte + 12, third);
     let first = error_at(code, block, byte + 6, second);
-    fields::judge(record_a::limits_of(0, 1, 1, 9), r, byte, first)
+    field::judge(field::limits_of(0, 1, 1, 9), r, byte, first)
 }
 
 pub fn check_record_c(block: &[u8]) -> Fault
@@ -59,13 +57,13 @@ pub fn check_record_c(block: &[u8]) -> Fault
     if block.len() != 1024 {
         return Fault { kind: 1, byte: 0 };
     }
-    let second = half_fault(block, 31, fields::no_fault());
+    let second = half_fault(block, 31, field::no_fault());
     let f = half_fault(block, 1, second);
     if f.kind != 0 {
         return f;
     }
-    if crate::blank_from(block, 60) {
-        return fields::no_fault();
+    if field::blank_from(block, 60) {
+        return field::no_fault();
     }
     Fault { kind: 5, byte: 61 }
 }

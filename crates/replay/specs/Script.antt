@@ -1,20 +1,11 @@
 -- DESIGN, "Programs' interfaces", `replay`: what the bytes of a script say.
 use mathlib.Core.Bool.{cond}
-use mathlib.Core.List.{List}
-use Prim.Native.Nat.{ℕ, _+_, _*_, _≤_}
+use Prim.Native.Nat.{ℕ, _≤_}
 use lib.Dec.{eqb, ltb}
-use lib.ListN.{getD}
 use Rattle.replay.specs.declared.script.Cells.{Cells}
 use Rattle.replay.specs.declared.script.Cells.the-variants.{Count, Bad as NoCount}
 use Rattle.replay.specs.declared.script.Head.{Head}
 use Rattle.replay.specs.declared.script.Head.the-variants.{Delivery, End, Bad}
-
--- "Numbers of four bytes stand largest byte first."
-abbrev pub numberOf : ℕ → ℕ → ℕ → ℕ → ℕ
-numberOf a b c d = ((a * 256 + b) * 256 + c) * 256 + d
-
-abbrev pub numberAt : List ℕ → ℕ → ℕ
-numberAt text at = numberOf (getD text at 0) (getD text (at + 1) 0) (getD text (at + 2) 0) (getD text (at + 3) 0)
 
 -- "four bytes, the cells of the grid (at most 15,000)"; "an input of fewer than four bytes .. gets the line `bad script`"
 abbrev pub countFrom : ℕ → ℕ → Cells

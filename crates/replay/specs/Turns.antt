@@ -1,13 +1,13 @@
 -- Where a script stands after a delivery.
 use mathlib.Core.Path.{_≡_}
 use mathlib.Core.List.{List, _++_}
-use mathlib.Core.Logic.{_⊎_}
 use Prim.Native.Nat.{ℕ}
 use lib.IntN.{ℤ}
 use lib.ListN.{take, drop}
+use mathlib.Core.Logic.{_⊎_}
 use Rattle.session.specs.declared.Session.{Session}
-use Rattle.load.specs.Deliver.{deliverOf, cellsAfter}
-use Rattle.load.specs.declared.Delivered.{Delivered}
+use Rattle.delivery.specs.declared.Delivered.{Delivered}
+use Rattle.delivery.specs.Deliver.{lend, deliverOf, lentAfter}
 use Rattle.replay.specs.declared.Turn.{Turn}
 
 -- the session of the answer, and more may follow
@@ -21,8 +21,8 @@ badTurn s = record { session = s; stage = 2 }
 -- "cells lent of that grid's front": the delivery sees those, and the others stay
 abbrev pub Delivers : Session → ℕ → ℕ → List ℕ → List ℤ → List ℤ → Turn → Type 0
 Delivers s lent number block before after t =
-    (t ≡ turnAfter (deliverOf s number block (take lent before)))
-    × (after ≡ cellsAfter s number block (take lent before) ++ drop lent before)
+    (t ≡ turnAfter (deliverOf s number block (lend (take lent before))))
+    × (after ≡ lentAfter s number block (lend (take lent before)) .grid ++ drop lent before)
 
 -- the script ended inside the delivery, and nothing is changed; or the bytes read are delivered
 abbrev pub Stands : Session → ℕ → ℕ → List ℕ → List ℤ → List ℤ → Turn → Type 0

@@ -1,6 +1,6 @@
 // The lines that replay writes.
+use delivery::Answer;
 use libc::STDOUT_FILENO;
-use load::Answer;
 use session::Session;
 
 fn write_word(word: &[u8]) {

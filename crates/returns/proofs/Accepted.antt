@@ -1,23 +1,23 @@
 -- The writer refuses exactly what document 01 lists: its fault is none exactly where each test is passed, test by test.
-use mathlib.Core.Bool.{true, false, cond}
 use mathlib.Core.List.{List}
 use mathlib.Core.Path.{_≡_, _∙_, ap}
 use Prim.Native.Nat.{ℕ, _<_}
 use native.Mathlib.Omega.{arith}
-use borrow.Author.Tests.{le-ltb, leb-false, lt-leb, eqb-true, eqb-false, eq-eqb}
-use lib.Dec.{leb, ltb, eqb}
 use lib.IntN.{ℤ}
+use mathlib.Core.Bool.{true, false, cond}
+use borrow.Author.Tests.{le-ltb, eq-eqb, lt-leb, leb-false, eqb-true, eqb-false}
+use lib.Dec.{ltb, eqb, leb}
 use lib.ListN.{length}
-use Rattle.number.proofs.GrammarParts.{by-test}
-use Rattle.sheet.specs.RecordA.{headerOf}
-use Rattle.load.specs.Deliver.{cellsOf, zOf}
+use Rattle.laws.proofs.Tests.{by-test}
+use Rattle.frame.specs.Frame.{cellsOf, zOf}
+use Rattle.heading.specs.Heading.{headerOf}
 use Rattle.written.specs.Cells.{canSend, sendable, blockCount}
 use Rattle.written.specs.Blocks.{sheetCells}
 use Rattle.written.specs.Sending.{fault, checkedFault, sheetFault, numberFault, first, blockFault}
-use Rattle.returns.specs.Writers.{CanBeSent, Accepts}
 use Rattle.written.proofs.ColumnsSent.{all-send}
 use Rattle.written.proofs.SheetSent.{sheet-cell, sheet-length, cell-sends}
-use Rattle.written.proofs.SheetPasses.{none-of, fine-passes}
+use Rattle.written.proofs.SheetPasses.{fine-passes, none-of}
+use Rattle.returns.specs.Writers.{CanBeSent, Accepts}
 use Rattle.returns.proofs.ZeroReads.{template-length}
 
 -- all cells of the sheet can be sent

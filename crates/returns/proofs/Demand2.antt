@@ -1,43 +1,44 @@
 -- Demand 2, the front door: what the writer refuses, what it sends, and that it reads back. Said of any writer that keeps the promise of
 -- `write_block`, and of any reader that keeps the promise of `deliver`. Each theorem cites where it is shown.
-use mathlib.Core.Bool.{true, false, cond}
 use mathlib.Core.List.{List}
-use mathlib.Core.Logic.{_↔_}
 use mathlib.Core.Path.{_≡_, sym, _∙_, ap, ap₂}
 use Prim.Native.Nat.{ℕ, _+_, _*_, _/_, _%_, _≤_, _<_}
+use lib.IntN.{ℤ}
+use mathlib.Core.Bool.{true, false, cond}
+use mathlib.Core.Logic.{_↔_}
 use native.Mathlib.Nat.{mod-lt, div-add-mod', div-lt-iff-lt-mul}
 use native.Mathlib.Omega.{arith}
 use borrow.Author.Tests.{eq-eqb, ne-eqb, leb-true, leb-false}
 use lib.Dec.{leb, eqb}
-use lib.IntN.{ℤ}
 use lib.ListN.{length, getD}
+use Rattle.laws.specs.Lists.{below}
 use Rattle.laws.proofs.Answers.{one-answer}
-use Rattle.number.proofs.GrammarParts.{by-test}
-use Rattle.sheet.specs.RecordA.{headerOf, columnsOf, rowsOf}
-use Rattle.sheet.specs.declared.record_a.Header.{Header}
-use Rattle.session.proofs.Facts.{header-facts}
-use Rattle.load.specs.Posts.{void}
-use Rattle.load.specs.Deliver.{cellsOf, complete}
-use Rattle.load.specs.declared.Answer.the-variants.{Taken}
-use Rattle.load.proofs.SoundOut.{sheet-obeys}
-use Rattle.meaning.specs.Text.{below}
+use Rattle.laws.proofs.Tests.{by-test}
+use Rattle.laws.proofs.Lists.{map-same}
+use Rattle.frame.specs.Frame.{columnsOf, rowsOf, cellsOf}
+use Rattle.frame.specs.declared.Header.{Header}
+use Rattle.heading.specs.Heading.{headerOf}
+use Rattle.heading.proofs.HeadingFacts.{header-facts}
+use Rattle.sheet.proofs.SheetObeys.{sheet-obeys}
+use Rattle.session.specs.Session.{complete}
+use Rattle.ground.specs.Posts.{void}
+use Rattle.delivery.specs.declared.Answer.the-variants.{Taken}
 use Rattle.meaning.specs.Deliveries.{Reader, Keeps, Desk, Delivery, atFirst, answered, afterAll}
 use Rattle.meaning.proofs.Demand3.{ours, ours-keeps}
-use Rattle.meaning.proofs.Lists.{map-same}
 use Rattle.written.specs.Cells.{sendable, columnCells, firstRow, cellsSent, blockCount}
 use Rattle.written.specs.Blocks.{blockSent}
 use Rattle.written.specs.Sending.{Fault, blockFault}
-use Rattle.returns.specs.Header.{headerSent}
-use Rattle.returns.specs.Writers.{Writer, KeepsWriting, CanBeSent, Accepts}
-use Rattle.returns.proofs.Accepted.{all-cells, accepts-fine, fine-accepts}
 use Rattle.written.proofs.ColumnsSent.{cell-sent}
 use Rattle.written.proofs.SheetSent.{column-cell, start-from}
+use Rattle.returns.specs.Writers.{Writer, KeepsWriting, CanBeSent, Accepts}
+use Rattle.returns.specs.Header.{headerSent}
+use Rattle.returns.proofs.Accepted.{all-cells, accepts-fine, fine-accepts}
 use Rattle.returns.proofs.Following.{Follows, startBy}
-use Rattle.returns.proofs.InOrder as Order
 use Rattle.returns.proofs.InOrder.{delivery, inOrder}
 use Rattle.returns.proofs.SentFollows.{start-is, follows}
-use Rattle.returns.proofs.ShutOutWriters as Shut
 use Rattle.returns.proofs.ShutOutWriters.{none-when-complete, RealsFit}
+use Rattle.returns.proofs.InOrder as Order
+use Rattle.returns.proofs.ShutOutWriters as Shut
 
 -- ---- 1. the promise determines the answer and every byte of the lent block
 
@@ -125,7 +126,7 @@ module _ (w : Writer) (keeps : KeepsWriting w) where
         reads lent room
 
     -- and leave every cell of the sheet equal to the writer's
-    pub cells-back : (i : ℕ) → i < cellsOf h → getD (deskAfter (blockCount h grid) .grid) i void ≡ getD grid i void
+    pub cells-back : (i : ℕ) → i < cellsOf h → getD (deskAfter (blockCount h grid) .lent .grid) i void ≡ getD grid i void
     cells-back i lt =
         let rows = rowsOf h in
         let facts = header-facts h (sheet-obeys template h (can .sheet)) in
@@ -135,8 +136,8 @@ module _ (w : Writer) (keeps : KeepsWriting w) where
         let less : q < rows = mod-lt i some in
         let inside : j < columnsOf h = div-lt-iff-lt-mul some .1 lt in
         let e : j * rows + q ≡ i = div-add-mod' i rows in
-        ap (λ (k : Desk). getD (k .grid) i void) same-desk
-        ∙ ap (λ (a : ℕ). getD (afterAll r (atFirst lent) (inOrder (blockSent template h grid) (startBy (cellsSent h grid) (columnsOf h))) .grid) a void) (sym e)
+        ap (λ (k : Desk). getD (k .lent .grid) i void) same-desk
+        ∙ ap (λ (a : ℕ). getD (afterAll r (atFirst lent) (inOrder (blockSent template h grid) (startBy (cellsSent h grid) (columnsOf h))) .lent .grid) a void) (sym e)
         ∙ Order.each-cell (blockSent template h grid) (cellsSent h grid) (λ c. firstRow (columnCells h grid c)) (headerSent h grid) layout r
         reads lent room j q inside less
         ∙ sym (cell-sent (columnCells h grid j) q)
@@ -208,8 +209,8 @@ module _ (w : Writer) (keeps : KeepsWriting w) where
     no-two-grids-alike g g′ can can′ same i lt =
         let e = alike-as-many g g′ can can′ same in
         sym (cells-back template g can lentBlock long ours ours-keeps g (can .room) i lt)
-        ∙ ap (λ (x : Desk). getD (x .grid) i void) (desks-alike g g g′ same (count g) (omega arith) (omega (arith, e)))
-        ∙ ap (λ (k : ℕ). getD (deskOf g g′ k .grid) i void) e
+        ∙ ap (λ (x : Desk). getD (x .lent .grid) i void) (desks-alike g g g′ same (count g) (omega arith) (omega (arith, e)))
+        ∙ ap (λ (k : ℕ). getD (deskOf g g′ k .lent .grid) i void) e
         ∙ cells-back template g′ can′ lentBlock long ours ours-keeps g (can .room) i lt
 
 -- ---- 5. no written real needs more than 15 digits, 6 in the spacings

@@ -1,34 +1,40 @@
 -- Blocks that follow the layout of a sheet, whoever wrote them: their joined text breaks no rule, block by block, and ends complete.
 -- The rules that each next block adds (meaning, RulesGrow) carry it.
-use mathlib.Core.Bool.{Bool, true, false, cond}
-use mathlib.Core.List.{List, [], _∷_, _++_, map}
+use mathlib.Core.Bool.{true, Bool, false, cond}
+use mathlib.Core.List.{[], _∷_, List, map, _++_}
 use mathlib.Core.Path.{_≡_, refl, sym, _∙_, ap, ap₂}
-use Prim.Native.Nat.{ℕ, zero, suc, _+_, _*_, _-_, _/_, _%_, _≤_, _<_}
-use native.Mathlib.Omega.{arith}
-use borrow.Author.Tests.{ltb-true, ltb-false, le-leb, leb-true, leb-false, eq-eqb, ne-eqb, eqb-true, eqb-false}
-use lib.Arith.{digits-div, digits-mod}
-use lib.Dec.{leb, ltb, eqb}
+use borrow.Author.Tests.{eq-eqb, ltb-true, ltb-false, le-leb, leb-true, leb-false, ne-eqb, eqb-true, eqb-false}
+use lib.Dec.{eqb, leb, ltb}
+use Prim.Native.Nat.{ℕ, zero, suc, _+_, _*_, _≤_, _<_, _-_, _/_, _%_}
 use lib.IntN.{ℤ, pos}
 use lib.ListN.{length, take, drop, getD, length-map, List·getD-eq-default}
+use native.Mathlib.Omega.{arith}
+use lib.Arith.{digits-div, digits-mod}
 use lib.Seq.{take-add, take-all}
-use Rattle.number.proofs.GrammarParts.{by-test}
-use Rattle.sheet.specs.Lattice.{latticeOf, placeOf}
-use Rattle.sheet.specs.RecordA.{faultOf, headerOf, columnsOf, rowsOf, west, east, south, north}
-use Rattle.sheet.specs.declared.lattice.Place.the-variants.{On}
-use Rattle.sheet.specs.declared.record_a.Header.{Header}
+use Rattle.laws.specs.Lists.{below, joined}
+use Rattle.laws.specs.Sign.{sameZ}
+use Rattle.laws.proofs.Tests.{by-test}
+use Rattle.laws.proofs.SameNumbers.{sameZ-is}
+use Rattle.laws.proofs.Lists.{from-length, joined-empty, joined-more, append-nil, append-brackets}
+use Rattle.lattice.specs.Lattice.{latticeOf, placeOf}
+use Rattle.lattice.specs.declared.Place.the-variants.{On}
+use Rattle.field.specs.Field.{restFault}
+use Rattle.frame.specs.Frame.{columnsOf, rowsOf, west, east, south, north, zOf}
+use Rattle.frame.specs.declared.Header.{Header}
+use Rattle.heading.specs.Heading.{headerOf}
+use Rattle.sheet.specs.RecordA.{faultOf}
 use Rattle.profile.specs.RecordB.{headFault, headOf}
 use Rattle.profile.specs.declared.record_b.Head.{Head}
-use Rattle.load.specs.Posts.{void, postsFault, postsOf, restFault, heights, sameZ, blocksFor}
-use Rattle.load.specs.Deliver.{zOf}
-use Rattle.load.proofs.Heights.{sameZ-is}
-use Rattle.meaning.specs.Text.{below, joined, blockAt, blocksIn, headerIn, profilesIn, startOf, headIn, roomIn, postsIn, heightIn, heightsIn, allHeights, columnPlaceIn, rowPlaceIn, columnIn, rowIn, numberOn, rowsIn, valueAt, cellIn, zIn}
-use Rattle.meaning.specs.Rules.{Breach, inBlock, rule, when, firstBroken, firstBreach, leastStated, greatestStated, postsOfBlock, postsByte, blockRules, placeRules, columnKept, rowKept, closingRules, sheetRules, isWhole, endOf, blocksOfSheet, isComplete}
-use Rattle.meaning.proofs.Lists.{Kept, from-length, joined-empty, joined-more, append-nil, append-brackets, kept-both}
+use Rattle.ground.specs.Posts.{blocksFor, postsFault, postsOf, heights, void}
+use Rattle.ground.specs.Extremes.{leastStated, greatestStated}
+use Rattle.meaning.specs.Rules.{Breach, rule, postsOfBlock, postsByte, inBlock, when, firstBroken, firstBreach, blockRules, placeRules, columnKept, rowKept, closingRules, sheetRules, isWhole, endOf, blocksOfSheet, isComplete}
+use Rattle.meaning.specs.Text.{roomIn, blockAt, blocksIn, headerIn, profilesIn, startOf, headIn, postsIn, heightIn, heightsIn, allHeights, columnPlaceIn, rowPlaceIn, columnIn, rowIn, numberOn, rowsIn, valueAt, cellIn, zIn}
+use Rattle.meaning.proofs.Lists.{Kept, kept-both}
 use Rattle.meaning.proofs.Starts.{start-order, start-from, none-yet}
-use Rattle.meaning.proofs.BlocksJoined as Blocks
 use Rattle.meaning.proofs.Joined.{Extends, Here, columnBy, rowBy, start-same, heights-whole, newHeights, heights-grow, all-grow}
 use Rattle.meaning.proofs.EachPost.{map-at, stands-for, value-void, value-of-post}
 use Rattle.meaning.proofs.RulesGrow.{closingDue, further-due, opening-due, first-due-kept}
+use Rattle.meaning.proofs.BlocksJoined as Blocks
 
 kept-one : (a : Breach) → a .kind ≡ 0 → Kept (a ∷ [])
 kept-one a e = let t : eqb (a .kind) 0 ≡ true = eq-eqb (a .kind) 0 e in rw t

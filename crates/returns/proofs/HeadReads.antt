@@ -1,32 +1,32 @@
 -- A profile's head that is sent has no fault and reads back as sent. The place of each of its nine pieces in the text carries it.
-use mathlib.Core.Bool.{true}
 use mathlib.Core.List.{List, [], _∷_, _++_, append-assoc}
-use mathlib.Core.Path.{_≡_, refl, sym, _∙_, ap}
-use Prim.Native.Nat.{ℕ, suc, _+_, _-_, _%_, _≤_}
-use native.Mathlib.Nat.{mod-one}
+use mathlib.Core.Path.{_≡_, refl, _∙_, ap, sym}
+use Prim.Native.Nat.{ℕ, _-_, _≤_, _%_, suc}
+use lib.ListN.{drop, length, take, getD, replicate}
+use lib.Seq.{drop-append-add, take-at}
 use native.Mathlib.Omega.{arith}
+use lib.IntN.{pos, ℤ}
+use mathlib.Core.Bool.{true}
+use native.Mathlib.Nat.{mod-one}
 use borrow.Author.Tests.{le-leb, eq-eqb}
-use lib.IntN.{ℤ, pos}
-use lib.ListN.{length, take, drop, getD, replicate}
-use lib.Seq.{take-at, drop-append-add}
+use Rattle.laws.specs.Sign.{notNegative}
 use Rattle.laws.proofs.Tests.{and-both}
-use Rattle.number.specs.declared.Reading.{Reading}
 use Rattle.number.specs.Integer.{integer, read}
+use Rattle.number.specs.declared.Reading.{Reading}
 use Rattle.number.specs.Real.{real}
+use Rattle.field.specs.Field.{stretch, limits, inRange, ranged, fault, wholeAt, realAt, firstOf}
+use Rattle.field.specs.declared.Fault.{Fault}
+use Rattle.frame.specs.declared.Header.{Header}
+use Rattle.frame.specs.Frame.{zOf}
+use Rattle.profile.specs.RecordB.{headFields, headFault, headOf}
+use Rattle.ground.specs.Extremes.{leastStated, greatestStated}
 use Rattle.spell.specs.Spell.{integerText, realText, realFits}
 use Rattle.spell.proofs.ReadBack.{integer-back, real-back}
-use Rattle.sheet.specs.Lattice.{notNegative}
-use Rattle.sheet.specs.RecordA.{stretch, fault, limits, inRange, ranged, wholeAt, realAt}
-use Rattle.sheet.specs.declared.record_a.Fault.{Fault}
-use Rattle.sheet.specs.declared.record_a.Header.{Header}
-use Rattle.profile.specs.RecordB.{headFields, firstOf, headFault, headOf}
-use Rattle.load.specs.Deliver.{zOf}
-use Rattle.meaning.specs.Rules.{leastStated, greatestStated}
 use Rattle.written.specs.Cells.{cellsSent}
 use Rattle.written.specs.Blocks.{xSent, ySent, headText, postsText, profileBlock}
+use Rattle.written.proofs.HeadSent.{onto, total, HeadFits, headPieces, head-lengths, head-length}
 use Rattle.written.proofs.PiecesSent.{small-fits, zero-fits}
 use Rattle.written.proofs.PostsSent.{AllSent, profile-length}
-use Rattle.written.proofs.HeadSent.{onto, total, HeadFits, headPieces, head-lengths, head-length}
 
 -- ---- pieces one behind the other, and a text behind them
 

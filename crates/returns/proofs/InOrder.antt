@@ -1,26 +1,27 @@
 -- Blocks that follow the layout, delivered in order from a fresh session: each is taken, the sheet is complete, and every cell of it is
 -- the one that they hold. Demand 3 (meaning) carries it.
-use mathlib.Core.Bool.{true, false, cond}
 use mathlib.Core.List.{List, [], _∷_, _++_, map}
-use mathlib.Core.Path.{_≡_, refl, sym, _∙_, ap, ap₂}
-use Prim.Native.Nat.{ℕ, zero, suc, _+_, _*_, _-_, _≤_, _<_}
+use mathlib.Core.Path.{_≡_, sym, _∙_, ap, refl, ap₂}
+use Prim.Native.Nat.{ℕ, suc, zero, _+_, _*_, _-_, _≤_, _<_}
+use mathlib.Core.Bool.{true, false, cond}
 use native.Mathlib.Omega.{arith}
 use native.Mathlib.Nat.{mul-le-mul-right, suc-mul}
 use borrow.Author.Tests.{ne-eqb}
 use lib.Dec.{leb, eqb}
 use lib.IntN.{ℤ}
 use lib.ListN.{length, getD}
-use Rattle.sheet.specs.RecordA.{columnsOf, rowsOf}
-use Rattle.sheet.specs.declared.record_a.Header.{Header}
-use Rattle.load.specs.Posts.{void}
-use Rattle.load.specs.Deliver.{cellsOf, complete}
-use Rattle.load.specs.declared.Answer.{Answer}
-use Rattle.load.specs.declared.Answer.the-variants.{Taken}
-use Rattle.meaning.specs.Text.{below, blocksIn, cellsIn}
+use Rattle.laws.specs.Lists.{below}
+use Rattle.laws.proofs.Lists.{append-nil, append-brackets, below-more, map-append}
+use Rattle.frame.specs.Frame.{columnsOf, rowsOf, cellsOf}
+use Rattle.frame.specs.declared.Header.{Header}
+use Rattle.session.specs.Session.{complete}
+use Rattle.ground.specs.Posts.{void}
+use Rattle.delivery.specs.declared.Answer.{Answer}
+use Rattle.delivery.specs.declared.Answer.the-variants.{Taken}
+use Rattle.meaning.specs.Deliveries.{Reader, Delivery, Desk, answered, after, afterAll, bytesIf, takenText, Keeps, Due, atFirst}
+use Rattle.meaning.specs.Text.{blocksIn, cellsIn}
 use Rattle.meaning.specs.Rules.{firstBreach}
 use Rattle.meaning.specs.Means.{begunSession, sessionOf, gridOf}
-use Rattle.meaning.specs.Deliveries.{Reader, Keeps, Delivery, Desk, Due, atFirst, answered, after, afterAll, bytesIf, takenText}
-use Rattle.meaning.proofs.Lists.{below-more, map-append, append-nil, append-brackets}
 use Rattle.meaning.proofs.Joined.{join-extends}
 use Rattle.meaning.proofs.EachPost.{grid-cell}
 use Rattle.meaning.proofs.LaterVerdict.{complete-is}
@@ -115,7 +116,7 @@ module _ (at : ℕ → List ℕ) (cells : ℕ → List ℤ) (row : ℕ → ℕ) 
 
   -- every cell of the sheet is the one that the blocks hold
   pub each-cell : (j i : ℕ) → j < columnsOf h → i < rowsOf h
-      → getD (desk .grid) (j * rowsOf h + i) void ≡ cond (leb (row j) i) (getD (cells j) (i - row j) void) void
+      → getD (desk .lent .grid) (j * rowsOf h + i) void ≡ cond (leb (row j) i) (getD (cells j) (i - row j) void) void
   each-cell j i lt less =
       let t = text-taken count (omega arith) in
       let c : cellsIn (text count) ≡ cellsOf h = ap cellsOf (whole-header at cells row h w) in

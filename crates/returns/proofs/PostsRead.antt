@@ -1,29 +1,30 @@
 -- Posts that are sent read back as the cells, in every block of a profile. Exact division and the place of each piece in its text carry it.
+use mathlib.Core.List.{List, _++_, _∷_, append-assoc, []}
+use mathlib.Core.Path.{_≡_, _∙_, ap, sym, refl, ap₂}
+use Prim.Native.Nat.{ℕ, _-_, _≤_, _+_, _*_, zero, suc}
+use lib.ListN.{length, take, replicate, length-append, drop, length-take, length-drop}
+use lib.Seq.{take-at, drop-at}
 use mathlib.Core.Bool.{true, false}
-use mathlib.Core.List.{List, [], _∷_, _++_, append-assoc}
-use mathlib.Core.Path.{_≡_, refl, sym, _∙_, ap, ap₂}
-use Prim.Native.Nat.{ℕ, zero, suc, _+_, _*_, _-_, _≤_}
 use native.Mathlib.Omega.{arith}
 use borrow.Author.Tests.{le-leb, eq-eqb}
 use lib.IntN.{ℤ, pos, natAbs, _*ℤ_, +ℤ-idr}
-use lib.ListN.{length, take, drop, replicate, length-append, length-take, length-drop}
-use lib.Seq.{take-at, drop-at}
-use Rattle.number.specs.declared.Reading.{Reading}
+use Rattle.laws.specs.Sign.{sameZ}
+use Rattle.laws.proofs.Tests.{by-test}
+use Rattle.laws.proofs.SameNumbers.{sameZ-is, sameZ-fails}
 use Rattle.number.specs.Integer.{integer, read}
-use Rattle.number.proofs.GrammarParts.{by-test}
+use Rattle.number.specs.declared.Reading.{Reading}
+use Rattle.lattice.specs.Lattice.{multipleOf}
+use Rattle.lattice.proofs.Multiples.{multiple-whole}
+use Rattle.field.specs.Field.{stretch, fault, restFault}
+use Rattle.frame.specs.declared.Header.{Header}
+use Rattle.frame.specs.Frame.{zOf}
+use Rattle.ground.specs.Posts.{void, voidPost, height, judgePost, heights, postsFault, postsOf}
 use Rattle.spell.specs.Spell.{integerText}
 use Rattle.spell.proofs.ReadBack.{integer-back}
 use Rattle.spell.proofs.Spelled.{blanks-blank}
-use Rattle.sheet.specs.Lattice.{multipleOf}
-use Rattle.sheet.specs.RecordA.{stretch, fault}
-use Rattle.sheet.specs.declared.record_a.Header.{Header}
-use Rattle.sheet.proofs.Multiples.{multiple-whole}
-use Rattle.load.specs.Posts.{void, voidPost, sameZ, height, heights, judgePost, postsFault, postsOf, restFault}
-use Rattle.load.specs.Deliver.{zOf}
-use Rattle.load.proofs.Heights.{sameZ-is, sameZ-fails}
 use Rattle.meaning.specs.Rules.{postsOfBlock, postsByte}
 use Rattle.written.specs.Cells.{canSend, postOf, cellsSent}
-use Rattle.written.specs.Blocks.{headText, postsText, filledUp, profileBlock}
+use Rattle.written.specs.Blocks.{postsText, filledUp, headText, profileBlock}
 use Rattle.written.proofs.PostsSent.{quotient-small, filled-can, post-small, post-fits, post-length, AllSent, first-sent, posts-length, cellsOfBlock, beforePosts, block-is, block-sends, block-room}
 
 -- ---- one piece of a text

@@ -1,38 +1,40 @@
 -- The blocks that the writer's definition sends follow the layout of a sheet: what Following asks is read back of each.
-use mathlib.Core.Bool.{true}
 use mathlib.Core.List.{List}
-use mathlib.Core.Path.{_≡_, refl, sym, _∙_, ap}
-use Prim.Native.Nat.{ℕ, zero, suc, _+_, _*_, _-_, _≤_, _<_, min}
+use mathlib.Core.Path.{_≡_, sym, _∙_, ap, refl}
+use Prim.Native.Nat.{ℕ, min, zero, suc, _+_, _*_, _-_, _≤_, _<_}
 use native.Mathlib.Omega.{arith}
 use borrow.Author.Tests.{leb-true, leb-false}
 use lib.Dec.{leb}
 use lib.IntN.{ℤ, pos}
 use lib.ListN.{length, take, drop, length-drop}
 use lib.Seq.{take-all, take-length}
-use Rattle.number.proofs.GrammarParts.{by-test}
-use Rattle.sheet.specs.Lattice.{latticeOf, placeOf}
-use Rattle.sheet.specs.RecordA.{recordA, headerOf, faultOf, columnsOf, rowsOf, west, east, south, north}
-use Rattle.sheet.specs.declared.record_a.Checked.the-variants.{Sheet}
-use Rattle.sheet.specs.declared.record_a.Fault.{Fault}
-use Rattle.sheet.specs.declared.record_a.Header.{Header}
+use mathlib.Core.Bool.{true}
+use Rattle.laws.proofs.Tests.{by-test}
+use Rattle.lattice.specs.Lattice.{latticeOf, placeOf}
+use Rattle.field.specs.declared.Fault.{Fault}
+use Rattle.field.specs.Field.{restFault}
+use Rattle.frame.specs.Frame.{columnsOf, rowsOf, west, east, south, north, cellsOf, zOf}
+use Rattle.frame.specs.declared.Header.{Header}
+use Rattle.heading.specs.Heading.{headerOf, headerObeys}
+use Rattle.heading.proofs.HeadingFacts.{Heading, header-facts}
+use Rattle.sheet.specs.RecordA.{recordA, faultOf}
+use Rattle.sheet.specs.declared.Checked.the-variants.{Sheet}
+use Rattle.sheet.proofs.SheetObeys.{sheet-obeys}
 use Rattle.profile.specs.RecordB.{headOf, headFault}
 use Rattle.profile.specs.declared.record_b.Head.{Head}
-use Rattle.session.specs.Session.{headerObeys}
-use Rattle.session.proofs.Facts.{Heading, header-facts}
-use Rattle.load.specs.Posts.{postsFault, postsOf, restFault, heights, blocksFor}
-use Rattle.load.specs.Deliver.{cellsOf, zOf}
-use Rattle.load.proofs.SoundOut.{sheet-obeys}
-use Rattle.meaning.specs.Text.{roomIn}
-use Rattle.meaning.specs.Rules.{leastStated, greatestStated, postsOfBlock, postsByte}
+use Rattle.ground.specs.Posts.{postsFault, postsOf, heights, blocksFor}
+use Rattle.ground.specs.Extremes.{leastStated, greatestStated}
 use Rattle.spell.specs.Spell.{realFits}
+use Rattle.meaning.specs.Text.{roomIn}
+use Rattle.meaning.specs.Rules.{postsOfBlock, postsByte}
 use Rattle.written.specs.Cells.{sendable, columnCells, firstRow, cellsSent, startSent}
 use Rattle.written.specs.Blocks.{sheetCells, xSent, ySent, headText, profileBlock, blockSent}
-use Rattle.returns.specs.Header.{headerSent}
+use Rattle.written.proofs.PostsSent.{cellsOfBlock, AllSent}
 use Rattle.written.proofs.SheetSent.{least-sheet, greatest-sheet, first-start, start-next}
 use Rattle.written.proofs.PlacesSent.{x-stands, y-sent-stands}
-use Rattle.written.proofs.PostsSent.{AllSent, cellsOfBlock}
 use Rattle.written.proofs.HeadSent.{HeadFits, head-length}
 use Rattle.written.proofs.BlocksSent.{zero-is, profile-is, sent-all, row-in, head-fits, sheet-least, sheet-greatest, block-long}
+use Rattle.returns.specs.Header.{headerSent}
 use Rattle.returns.proofs.PostsRead.{block-posts, block-rest, block-heights}
 use Rattle.returns.proofs.HeadReads.{head-is, head-fine}
 use Rattle.returns.proofs.ZeroReads.{template-length, zero-header, zero-faultless}

@@ -1,41 +1,44 @@
 -- Document 01, "How much a promise says" and "Writing": no writer that it names keeps the promise of `write_block`, and no real that is
 -- written needs more than 15 digits. The paper's sheet, sent, shuts the writers out; what fits a real's field carries the rest.
-use mathlib.Core.Bool.{Bool, true, false, cond}
 use mathlib.Core.List.{List}
-use mathlib.Core.Path.{_≡_, refl, sym, _∙_, ap}
 use Prim.Native.Nat.{ℕ, _≤_, _<_}
+use lib.ListN.{replicate, getD, length}
+use mathlib.Core.Path.{_≡_, refl, sym, _∙_, ap}
+use mathlib.Core.Bool.{cond, Bool, true, false}
 use native.Mathlib.Omega.{arith}
-use borrow.Author.Tests.{ne-eqb}
-use lib.Dec.{ltb, eqb}
+use lib.Dec.{eqb, ltb}
 use lib.IntN.{ℤ, pos}
-use lib.ListN.{length, getD, replicate}
+use borrow.Author.Tests.{ne-eqb}
 use Rattle.laws.specs.Digits.{places, short}
 use Rattle.laws.proofs.Tables.{all}
 use Rattle.laws.proofs.Tests.{clash}
 use Rattle.number.specs.Integer.{integer}
 use Rattle.number.specs.Real.{real, billionths}
-use Rattle.sheet.specs.Lattice.{latticeOf}
-use Rattle.sheet.specs.RecordA.{recordA, fields, headerOf, columnsOf}
-use Rattle.sheet.specs.declared.record_a.Header.{Header}
-use Rattle.session.specs.Session.{headerObeys, sound}
+use Rattle.lattice.specs.Lattice.{latticeOf}
+use Rattle.frame.specs.Frame.{columnsOf, cellsOf, zOf}
+use Rattle.frame.specs.declared.Header.{Header}
+use Rattle.heading.specs.Heading.{headerOf, headerObeys}
+use Rattle.heading.proofs.HeadingFacts.{header-facts}
+use Rattle.sheet.specs.RecordA.{recordA, fields}
+use Rattle.sheet.proofs.SheetObeys.{sheet-obeys}
+use Rattle.session.specs.Session.{sound, complete}
 use Rattle.session.specs.declared.Session.{Session}
-use Rattle.session.proofs.Facts.{header-facts}
-use Rattle.load.specs.Deliver.{cellsOf, zOf, complete, verdictOf, deliverOf}
-use Rattle.load.specs.declared.Answer.{Answer}
-use Rattle.load.specs.declared.Answer.the-variants.{Taken, Held, Refused}
-use Rattle.load.specs.declared.Delivered.{Delivered}
-use Rattle.load.proofs.SoundOut.{sheet-obeys}
-use Rattle.meaning.specs.Deliveries.{Reader, Keeps, Delivery, Desk, answered}
+use Rattle.ground.specs.Extremes.{leastStated, greatestStated}
+use Rattle.numerals.specs.Numerals.{spell, count}
+use Rattle.spell.specs.Spell.{integerText, realFits}
+use Rattle.delivery.specs.declared.Answer.{Answer}
+use Rattle.delivery.specs.declared.Answer.the-variants.{Taken, Held, Refused}
+use Rattle.delivery.specs.Deliver.{Lent, verdictOf, deliverOf}
+use Rattle.delivery.specs.declared.Delivered.{Delivered}
 use Rattle.meaning.specs.PaperSheet.{paperA, paperCells}
-use Rattle.meaning.specs.Rules.{leastStated, greatestStated}
-use Rattle.spell.specs.Spell.{spell, count, integerText, realFits}
-use Rattle.written.specs.Cells.{canSend, sendable, voidsBefore, upToLast, profileCells, cellsSent, startAt, columnFor}
-use Rattle.written.specs.Blocks.{sheetCells, piecesBy, piecesA, blockZero, xSent, ySent, profileBlock, blockSent}
-use Rattle.written.specs.Sending.{Fault, fault, sheetFault, blockFault}
-use Rattle.returns.specs.Writers.{Writer, KeepsWriting, CanBeSent}
+use Rattle.meaning.specs.Deliveries.{Reader, Keeps, Delivery, Desk, answered}
+use Rattle.written.specs.Cells.{canSend, sendable, voidsBefore, upToLast, profileCells, startAt, columnFor, cellsSent}
+use Rattle.written.specs.Sending.{fault, sheetFault, blockFault, Fault}
+use Rattle.written.specs.Blocks.{piecesBy, blockZero, blockSent, profileBlock, sheetCells, piecesA, xSent, ySent}
 use Rattle.written.proofs.PiecesSent.{pieceFits, CornerFits, header-reals, zero-fits, all-fit}
 use Rattle.written.proofs.HeadSent.{HeadFits}
 use Rattle.written.proofs.BlocksSent.{head-fits, sheet-least, sheet-greatest}
+use Rattle.returns.specs.Writers.{Writer, KeepsWriting, CanBeSent}
 use Rattle.returns.proofs.Accepted.{all-cells}
 
 -- ---- the paper's sheet, sent
@@ -112,17 +115,17 @@ isTaken Held = false
 isTaken (Refused kind block byte) = false
 
 -- once the sheet is complete the definition takes no later block
-none-defined : (s : Session) (number : ℕ) (block : List ℕ) (grid : List ℤ) → 1 ≤ number → complete s ≡ true
-    → deliverOf s number block grid .answer ≡ Taken → ⊥
+none-defined : (s : Session) (number : ℕ) (block : List ℕ) (lent : Lent) → 1 ≤ number → complete s ≡ true
+    → deliverOf s number block lent .answer ≡ Taken → ⊥
 unfolding verdictOf
-none-defined s number block grid some done t =
+none-defined s number block lent some done t =
     clash (sym (ap isTaken t) ∙ go (eqb (length block) 1024) refl (sound s) refl (ltb number (s .taken)) refl (ltb (s .taken) number) refl)
   where
     n : eqb number 0 ≡ false
     n = ne-eqb number 0 (λ z. omega (arith, z, some))
 
     go : (a : Bool) → eqb (length block) 1024 ≡ a → (b : Bool) → sound s ≡ b → (c : Bool) → ltb number (s .taken) ≡ c
-        → (d : Bool) → ltb (s .taken) number ≡ d → isTaken (deliverOf s number block grid .answer) ≡ false
+        → (d : Bool) → ltb (s .taken) number ≡ d → isTaken (deliverOf s number block lent .answer) ≡ false
     go false p b q c u d v = rw p
     go true p false q c u d v = rw (p, q)
     go true p true q true u d v = rw (p, q, u)
@@ -133,8 +136,8 @@ none-defined s number block grid some done t =
 pub none-when-complete : (r : Reader) → Keeps r → (k : Desk) (d : Delivery) → 1 ≤ d .number → complete (k .session) ≡ true
     → answered r k d ≡ Taken → ⊥
 none-when-complete r keeps k d some done t =
-    none-defined (k .session) (d .number) (d .bytes) (k .grid) some done
-    (ap (λ (x : Delivered). x .answer) (sym (keeps .answers (k .session) (d .number) (d .bytes) (k .grid))) ∙ t)
+    none-defined (k .session) (d .number) (d .bytes) (k .lent) some done
+    (ap (λ (x : Delivered). x .answer) (sym (keeps .answers (k .session) (d .number) (d .bytes) (k .lent))) ∙ t)
 
 -- ---- "No written real can need more than 15 digits (6 in the spacings)"
 

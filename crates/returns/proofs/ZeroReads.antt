@@ -1,41 +1,41 @@
 -- Block 0 as it is sent reads back as the template's header with what the writer puts in anew. Where each piece of the block begins carries it.
-use mathlib.Core.Bool.{true}
 use mathlib.Core.List.{List, [], _∷_, _++_, map}
-use mathlib.Core.Path.{_≡_, refl, sym, _∙_, ap}
-use Prim.Native.Nat.{ℕ, zero, suc, _+_, _*_, _-_, _%_, _≤_, _<_}
+use Prim.Native.Nat.{ℕ, zero, suc, _+_, _<_, _≤_, _%_, _*_, _-_}
+use lib.ListN.{getD, length, take, drop}
+use mathlib.Core.Bool.{true}
+use mathlib.Core.Path.{_≡_, sym, _∙_, ap, refl}
 use native.Mathlib.Nat.{le-of-suc-le-suc, not-suc-le-zero}
-use native.Mathlib.Omega.{arith}
-use borrow.Author.Tests.{eqb-true, eqb-false, eq-eqb, le-leb}
-use lib.Dec.{eqb, lit<}
-use lib.IntN.{ℤ, pos}
-use lib.ListN.{length, take, drop, getD}
 use lib.Seq.{take-at, drop-append-add, take-take, drop-drop}
-use Rattle.laws.specs.Sign.{_and_}
+use native.Mathlib.Omega.{arith}
+use lib.IntN.{pos, ℤ}
+use borrow.Author.Tests.{eq-eqb, eqb-true, eqb-false, le-leb}
+use lib.Dec.{eqb, lit<}
+use Rattle.laws.specs.Lists.{joined}
+use Rattle.laws.specs.Sign.{notNegative}
 use Rattle.laws.proofs.Tables.{all}
-use Rattle.laws.proofs.Tests.{and-first, and-second, and-both}
-use Rattle.number.specs.declared.Reading.{Reading}
+use Rattle.laws.proofs.Tests.{and-second, by-test, and-both, and-first}
 use Rattle.number.specs.Integer.{integer, read}
 use Rattle.number.specs.Real.{real}
-use Rattle.number.proofs.GrammarParts.{by-test}
-use Rattle.spell.specs.Spell.{realFits}
-use Rattle.spell.proofs.ReadBack.{integer-back, real-back, spacing-back}
-use Rattle.sheet.specs.Lattice.{notNegative}
-use Rattle.sheet.specs.RecordA.{Row, rows, fields, judge, judgeRow, firstFault, faultOf, recordA, headerOf, stretch, inRange, ranged, limits, zoneLimits, groundLimits, heightLimits, billion, columnsOf, rowsOf, oneTo2048, wholeFault, wholeAt}
+use Rattle.number.specs.declared.Reading.{Reading}
+use Rattle.field.specs.Field.{stretch, inRange, ranged, limits, wholeAt}
+use Rattle.field.specs.declared.Limits.{Limits}
+use Rattle.frame.specs.declared.Header.{Header}
+use Rattle.frame.specs.Frame.{columnsOf, rowsOf, oneTo2048, wholeFault}
+use Rattle.heading.specs.Heading.{zoneLimits, groundLimits, heightLimits, billion, fieldsObey, headerObeys, headerOf}
+use Rattle.heading.proofs.HeadingFacts.{Ranged, Heading, header-facts}
+use Rattle.sheet.specs.RecordA.{Row, judgeRow, firstFault, recordA, rows, fields, judge, faultOf}
+use Rattle.sheet.specs.declared.Checked.the-variants.{Sheet}
 use Rattle.sheet.specs.RecordA.Rule.{words, form}
 use Rattle.sheet.specs.RecordASteps.{rowAt}
-use Rattle.sheet.specs.declared.record_a.Checked.the-variants.{Sheet}
-use Rattle.sheet.specs.declared.record_a.Header.{Header}
-use Rattle.sheet.specs.declared.record_a.Limits.{Limits}
-use Rattle.sheet.proofs.HeaderA.{row-fine, verdict-sheet}
 use Rattle.sheet.proofs.RulesA.{sheet-exactly, sheet-fine}
-use Rattle.session.specs.Session.{fieldsObey, headerObeys}
-use Rattle.session.proofs.Facts.{Ranged, Heading, header-facts}
-use Rattle.load.proofs.SoundOut.{sheet-obeys}
-use Rattle.meaning.specs.Text.{joined}
-use Rattle.meaning.specs.Rules.{leastStated, greatestStated}
+use Rattle.sheet.proofs.HeaderA.{row-fine, verdict-sheet}
+use Rattle.sheet.proofs.SheetObeys.{sheet-obeys}
+use Rattle.ground.specs.Extremes.{leastStated, greatestStated}
+use Rattle.spell.specs.Spell.{realFits}
+use Rattle.spell.proofs.ReadBack.{integer-back, real-back, spacing-back}
 use Rattle.written.specs.Blocks.{Piece, pieceText, sheetCells, piecesBy, piecesA, blockZero}
 use Rattle.written.specs.Blocks.Piece.{keeps, whole, real as real·sent, spacing}
-use Rattle.written.proofs.PiecesSent.{pieceFits, pieceWidth, bytesBefore, nothing, fit-at, piece-length, all-fit, zero-length}
+use Rattle.written.proofs.PiecesSent.{nothing, pieceFits, pieceWidth, bytesBefore, fit-at, piece-length, all-fit, zero-length}
 use Rattle.returns.specs.Header.{headerSent}
 
 -- ---- pieces one behind the other

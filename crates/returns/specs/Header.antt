@@ -1,9 +1,9 @@
 -- Document 01, "Writing": the header of a sheet as it is sent, "n set to the columns, extremes worked out, accuracy 0".
 use mathlib.Core.List.{List}
 use lib.IntN.{ℤ}
-use Rattle.sheet.specs.RecordA.{columnsOf}
-use Rattle.sheet.specs.declared.record_a.Header.{Header}
-use Rattle.meaning.specs.Rules.{leastStated, greatestStated}
+use Rattle.frame.specs.Frame.{columnsOf}
+use Rattle.frame.specs.declared.Header.{Header}
+use Rattle.ground.specs.Extremes.{leastStated, greatestStated}
 use Rattle.written.specs.Blocks.{sheetCells}
 
 abbrev pub headerSent : Header → List ℤ → Header

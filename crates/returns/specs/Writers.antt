@@ -1,16 +1,17 @@
 -- Demand 2: anything that writes sheets, the promise it may keep, and what it must accept.
-use mathlib.Core.Bool.{true}
 use mathlib.Core.List.{List}
-use mathlib.Core.Path.{_≡_}
 use Prim.Native.Nat.{ℕ, _≤_, _<_}
 use lib.IntN.{ℤ}
+use mathlib.Core.Path.{_≡_}
 use lib.ListN.{length, getD}
-use Rattle.sheet.specs.RecordA.{recordA, headerOf}
-use Rattle.sheet.specs.declared.record_a.Checked.the-variants.{Sheet}
-use Rattle.load.specs.Posts.{void}
-use Rattle.load.specs.Deliver.{cellsOf, zOf}
-use Rattle.written.specs.Cells.{canSend, blockCount}
+use mathlib.Core.Bool.{true}
+use Rattle.frame.specs.Frame.{cellsOf, zOf}
+use Rattle.heading.specs.Heading.{headerOf}
+use Rattle.sheet.specs.RecordA.{recordA}
+use Rattle.sheet.specs.declared.Checked.the-variants.{Sheet}
+use Rattle.ground.specs.Posts.{void}
 use Rattle.written.specs.Sending.{Fault, blockFault, blockAfter}
+use Rattle.written.specs.Cells.{canSend, blockCount}
 
 -- its answer, kind 0 where the block is written, and the lent block afterwards
 pub record Writer : Type 0 where

@@ -1,30 +1,32 @@
 -- From a judged sheet to what the writers ask, and from what they give to the public answer.
-use mathlib.Core.Bool.{true, false}
 use mathlib.Core.List.{List}
-use mathlib.Core.Path.{_≡_, sym, _∙_, ap, subst}
-use Prim.Native.Nat.{ℕ, _-_, _≤_, _<_}
-use native.Mathlib.Omega.{arith}
-use borrow.Author.Tests.{le-leb, lt-leb, eqb-true, eq-eqb, ne-eqb}
-use lib.Dec.{leb, eqb}
+use mathlib.Core.Path.{_≡_, ap, sym, _∙_, subst}
+use Prim.Native.Nat.{ℕ, _≤_, _<_, _-_}
 use lib.IntN.{ℤ}
+use mathlib.Core.Bool.{false, true}
+use native.Mathlib.Omega.{arith}
+use borrow.Author.Tests.{eqb-true, eq-eqb, ne-eqb, le-leb, lt-leb}
+use lib.Dec.{eqb, leb}
 use lib.ListN.{length}
-use Rattle.number.proofs.GrammarParts.{by-test}
-use Rattle.sheet.specs.RecordA.{headerOf, columnsOf, rowsOf}
-use Rattle.sheet.specs.declared.record_a.Header.{Header}
-use Rattle.load.proofs.SoundOut.{sheet-obeys}
-use Rattle.written.specs.Cells.{startAt, startSent, blockCount}
-use Rattle.written.specs.Blocks.{blockZero, profileBlock, blockSent}
-use Rattle.written.specs.Sending.{Fault, fault, sheetFault, blockFault, blockAfter, countOf}
+use Rattle.laws.proofs.Tests.{by-test}
+use Rattle.frame.specs.declared.Header.{Header}
+use Rattle.frame.specs.Frame.{columnsOf, rowsOf}
+use Rattle.heading.specs.Heading.{headerOf}
+use Rattle.sheet.proofs.SheetObeys.{sheet-obeys}
+use Rattle.written.specs.Sending.{sheetFault, Fault, fault, blockFault, blockAfter, countOf}
+use Rattle.written.specs.Cells.{blockCount, startAt, startSent}
+use Rattle.written.specs.Blocks.{profileBlock, blockZero, blockSent}
 use Rattle.written.proofs.SheetPasses.{fine-passes}
-use Rattle.send.specs.declared.Sent.{Sent}
-use Rattle.send.specs.declared.Sent.the-variants.{Written, Refused}
-use Rattle.send.specs.declared.one_block.Judged.{Judged}
-use Rattle.send.specs.declared.one_block.Judged.the-variants.{Good, Bad}
-use Rattle.send.specs.declared.scan.Found.{Found}
-use Rattle.send.specs.ScanSteps.{Sizes, Finds}
-use Rattle.send.specs.SendSteps.{sentBy, judgedBy, ProfileAsked, ZeroAsked}
-use Rattle.send.specs.AnswerSteps.{LaterAsked, laterBlock, countFault, numbered}
+use Rattle.columns.specs.declared.judging.Judged.{Judged}
+use Rattle.columns.specs.declared.judging.Judged.the-variants.{Good, Bad}
+use Rattle.columns.specs.Judging.{judgedBy}
 use Rattle.send.specs.WholeSteps.{FitAsked}
+use Rattle.send.specs.declared.Sent.{Sent}
+use Rattle.send.specs.declared.Sent.the-variants.{Refused, Written}
+use Rattle.send.specs.SendSteps.{sentBy, ZeroAsked, ProfileAsked}
+use Rattle.send.specs.AnswerSteps.{countFault, numbered, LaterAsked, laterBlock}
+use Rattle.send.specs.ScanSteps.{Sizes, Finds}
+use Rattle.send.specs.declared.scan.Found.{Found}
 use Rattle.send.proofs.ScanLaws.{sizes}
 
 -- ---- a sheet that nothing stands against can be sent

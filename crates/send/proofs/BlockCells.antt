@@ -1,29 +1,28 @@
 -- The cells that a block of a profile sends are a stretch of the grid, lent as they stand; and the blocks by what is handed over for them.
-use mathlib.Core.Bool.{true}
 use mathlib.Core.List.{List, [], _∷_}
-use mathlib.Core.Path.{_≡_, refl, sym, _∙_, ap, ap₂}
-use Prim.Native.Nat.{ℕ, zero, suc, _+_, _*_, _-_, min, _≤_, _<_}
-use native.Mathlib.Nat.{zero-min, min-zero, suc-min-suc, suc-mul, mul-le-mul, mul-le-mul-right}
-use native.Mathlib.Omega.{arith}
+use mathlib.Core.Path.{_≡_, sym, ap, _∙_, ap₂, refl}
+use Prim.Native.Nat.{ℕ, zero, suc, min, _+_, _-_, _≤_, _*_, _<_}
+use native.Mathlib.Nat.{zero-min, min-zero, suc-min-suc, suc-mul, mul-le-mul-right}
 use lib.IntN.{ℤ}
-use lib.ListN.{length, take, drop, length-take}
+use lib.ListN.{take, drop, length, length-take}
 use lib.Seq.{take-nil, drop-drop}
-use Rattle.sheet.specs.RecordA.{columnsOf, rowsOf}
-use Rattle.sheet.specs.declared.record_a.Header.{Header}
-use Rattle.session.specs.Session.{headerObeys}
-use Rattle.session.proofs.Facts.{Heading, header-facts}
-use Rattle.load.specs.Deliver.{zOf}
-use Rattle.meaning.specs.Rules.{leastStated, greatestStated}
+use mathlib.Core.Bool.{true}
+use native.Mathlib.Omega.{arith}
+use Rattle.frame.specs.Frame.{columnsOf, rowsOf, zOf}
+use Rattle.frame.specs.declared.Header.{Header}
+use Rattle.heading.specs.Heading.{headerObeys}
+use Rattle.heading.proofs.HeadingFacts.{Heading, header-facts}
+use Rattle.ground.specs.Extremes.{leastStated, greatestStated}
 use Rattle.written.specs.Blocks.{sheetCells, blockZero, xSent, ySent, profileBlock, yOfRow}
 use Rattle.written.specs.Cells.{sendable, columnCells, cellsSent}
 use Rattle.written.proofs.ColumnsSent.{some-cells}
 use Rattle.written.proofs.SheetSent.{column-length}
 use Rattle.written.proofs.PostsSent.{part-sends}
 use Rattle.written.proofs.BlocksSent.{sent-all, row-in}
-use Rattle.send.specs.ProfileSteps.{firstBy, furtherBy}
+use Rattle.columns.proofs.Columns.{drop-take, profile-place}
+use Rattle.columns.proofs.GridJudged.{cells-most}
+use Rattle.paint.proofs.Fitting.{zeroBy, firstBy, furtherBy}
 use Rattle.send.specs.SendSteps.{ProfileAsked}
-use Rattle.send.proofs.Columns.{drop-take, profile-place}
-use Rattle.send.specs.ZeroSteps.{zeroBy}
 use Rattle.send.proofs.ProfileLaws.{first-sent, further-sent}
 
 -- ---- a stretch of a stretch
@@ -58,13 +57,6 @@ module _ (h : Header) (obeys : headerObeys h ≡ true) where
 
   pub rows-least : 1 ≤ rowsOf h
   rows-least = facts .rows .0
-
-  -- as the code multiplies them
-  pub cells-most : (columns rows : ℕ) → columns ≡ columnsOf h → rows ≡ rowsOf h → columns * rows ≤ 4194304
-  cells-most columns rows e f =
-      let x : columns ≤ 2048 = omega (arith, e, columns-most) in
-      let y : rows ≤ 2048 = omega (arith, f, rows-most) in
-      omega (arith, mul-le-mul x y)
 
 -- block 0 by the numbers that the code hands over
 pub zero-block : (template : List ℕ) (h : Header) (grid : List ℤ) {written : List ℕ} {least greatest : ℤ} {columns : ℕ}

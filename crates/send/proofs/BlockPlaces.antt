@@ -1,22 +1,22 @@
 -- A profile's place lies between the corners: so the machine's sum and product hold it.
 use mathlib.Core.Bool.{true}
 use mathlib.Core.Path.{_≡_, _∙_, ap}
-use Prim.Native.Nat.{ℕ, _^_, _<_}
+use Prim.Native.Nat.{ℕ, _<_, _^_}
 use native.Mathlib.Omega.{arith}
 use lib.IntN.{ℤ, pos, _+ℤ_, _*ℤ_}
 use mir.Facts.{toZ-ofZ}
 use mir.Syntax.{w64}
 use mir.Val.{SFits, toZ, ofZ}
 use Rattle.laws.proofs.Integers.{size-sum, size-fits}
+use Rattle.lattice.specs.Lattice.{latticeOf}
+use Rattle.lattice.proofs.Cases.{real-small}
+use Rattle.lattice.proofs.LatticeLaws.{first-real}
+use Rattle.frame.specs.Frame.{columnsOf, rowsOf, west, east, south, north}
+use Rattle.frame.specs.declared.Header.{Header}
+use Rattle.heading.specs.Heading.{headerObeys}
+use Rattle.heading.proofs.HeadingFacts.{Heading, header-facts}
 use Rattle.spell.specs.Spell.{realFits}
 use Rattle.spell.proofs.Fits.{real-fits}
-use Rattle.sheet.specs.Lattice.{latticeOf}
-use Rattle.sheet.specs.RecordA.{columnsOf, rowsOf, west, east, south, north}
-use Rattle.sheet.specs.declared.record_a.Header.{Header}
-use Rattle.sheet.proofs.Cases.{real-small}
-use Rattle.sheet.proofs.LatticeLaws.{first-real}
-use Rattle.session.specs.Session.{headerObeys}
-use Rattle.session.proofs.Facts.{Heading, header-facts}
 use Rattle.written.specs.Blocks.{xSent, yOfRow}
 use Rattle.written.proofs.PlacesSent.{x-fits, y-fits}
 use Rattle.send.specs.BlockSteps.{PlaceAsked}

@@ -1,14 +1,7 @@
-pub mod Columns
-pub mod Sendable
-pub mod Extremes
 pub mod ScanLaws
-pub mod ProfileText
 pub mod ProfileLaws
-pub mod ZeroTable
-pub mod ZeroWalk
 pub mod AnswerLaws
 pub mod BlockCells
-pub mod BlockJudged
 pub mod BlockPlaces
 pub mod WholeText
 pub mod WholeJudged

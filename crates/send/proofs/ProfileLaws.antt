@@ -4,12 +4,12 @@ use mathlib.Core.Path.{_≡_, refl}
 use Prim.Native.Nat.{ℕ, suc, _+_, _*_}
 use lib.IntN.{ℤ}
 use lib.ListN.{length, take, drop}
-use Rattle.sheet.specs.declared.record_a.Header.{Header}
-use Rattle.load.specs.Deliver.{zOf}
-use Rattle.meaning.specs.Rules.{leastStated, greatestStated}
+use Rattle.frame.specs.declared.Header.{Header}
+use Rattle.frame.specs.Frame.{zOf}
+use Rattle.ground.specs.Extremes.{leastStated, greatestStated}
 use Rattle.written.specs.Blocks.{xSent, ySent, profileBlock}
 use Rattle.written.specs.Cells.{cellsSent}
-use Rattle.send.specs.ProfileSteps.{firstBy, furtherBy}
+use Rattle.paint.proofs.Fitting.{firstBy, furtherBy}
 
 module _ (h : Header) (grid : List ℤ) (c : ℕ) where
   pub first-sent : firstBy (suc c) (length (cellsSent h grid c)) (xSent h c) (ySent h grid c) (leastStated (cellsSent h grid c))

@@ -1,19 +1,19 @@
 -- What a walk along the columns keeps: sums stay small, and the first column that does not end before a block has it.
-use Prim.Native.Nat.{ℕ, zero, suc, _+_, _*_, _≤_, _<_}
+use Prim.Native.Nat.{ℕ, _≤_, _+_, zero, suc, _*_, _<_}
+use native.Mathlib.Omega.{arith}
 use mathlib.Core.List.{List}
 use mathlib.Core.Path.{_≡_, sym}
-use native.Mathlib.Nat.{suc-mul, mul-le-mul-right}
 use native.Mathlib.Numerals.{add-one}
-use native.Mathlib.Omega.{arith}
 use lib.IntN.{ℤ}
 use lib.ListN.{length, drop, length-take, length-drop}
-use Rattle.sheet.specs.RecordA.{columnsOf, rowsOf}
-use Rattle.sheet.specs.declared.record_a.Header.{Header}
-use Rattle.session.proofs.Facts.{header-facts}
-use Rattle.load.specs.Posts.{blocksFor}
-use Rattle.written.specs.Cells.{columnAt, firstRow, profileCells, startAt}
+use native.Mathlib.Nat.{suc-mul, mul-le-mul-right}
+use Rattle.frame.specs.Frame.{columnsOf, rowsOf}
+use Rattle.frame.specs.declared.Header.{Header}
+use Rattle.heading.proofs.HeadingFacts.{header-facts}
+use Rattle.ground.specs.Posts.{blocksFor}
+use Rattle.written.specs.Cells.{columnAt, profileCells, startAt, firstRow}
+use Rattle.written.proofs.SheetSent.{start-next, first-start, column-with}
 use Rattle.written.proofs.ColumnsSent.{cells-room}
-use Rattle.written.proofs.SheetSent.{first-start, start-next, column-with}
 use Rattle.send.specs.ScanSteps.{Sizes, Finds}
 use Rattle.send.specs.SendSteps.{SendableSheet}
 

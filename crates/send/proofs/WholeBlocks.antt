@@ -1,23 +1,23 @@
 -- Each block sent is 1,024 bytes, so a whole sheet's b-th block is what the single call writes for b: one by one, or all at once, the same.
-use mathlib.Core.Bool.{true, false}
 use mathlib.Core.List.{List}
 use mathlib.Core.Path.{_≡_}
-use Prim.Native.Nat.{ℕ, _*_, _<_}
+use Prim.Native.Nat.{ℕ, _<_, _*_}
+use lib.IntN.{ℤ}
+use lib.ListN.{length, take, drop}
+use mathlib.Core.Bool.{true, false}
 use native.Mathlib.Omega.{arith}
 use borrow.Author.Tests.{eqb-true, eqb-false, eq-eqb, lt-leb}
 use lib.Dec.{eqb, leb}
-use lib.IntN.{ℤ}
-use lib.ListN.{length, take, drop}
-use Rattle.number.proofs.GrammarParts.{by-test}
-use Rattle.sheet.specs.RecordA.{headerOf}
-use Rattle.sheet.specs.declared.record_a.Header.{Header}
+use Rattle.laws.proofs.Tests.{by-test}
+use Rattle.frame.specs.declared.Header.{Header}
+use Rattle.heading.specs.Heading.{headerOf}
 use Rattle.meaning.proofs.BlocksJoined.{text-length, block-at}
 use Rattle.written.specs.Cells.{blockCount}
 use Rattle.written.specs.Blocks.{blockSent}
 use Rattle.written.specs.Sending.{sheetFault, blockFault, blockAfter, countOf, sentText}
 use Rattle.written.proofs.BlocksSent.{block-long}
-use Rattle.send.specs.SendSteps.{sheetSentFault, sheetAfter}
 use Rattle.send.specs.WholeSteps.{FitAsked}
+use Rattle.send.specs.SendSteps.{sheetSentFault, sheetAfter}
 use Rattle.send.proofs.AnswerLaws.{fine-fits}
 
 module _ (template : List ℕ) (h : Header) (grid : List ℤ) (fit : FitAsked template h grid) where

@@ -6,15 +6,16 @@ use Prim.Native.Nat.{ℕ, _*_}
 use lib.Dec.{eqb}
 use lib.IntN.{ℤ}
 use lib.ListN.{length}
-use Rattle.number.proofs.GrammarParts.{by-test}
-use Rattle.sheet.specs.RecordA.{headerOf}
-use Rattle.sheet.specs.declared.record_a.Header.{Header}
+use Rattle.laws.proofs.Tests.{by-test}
+use Rattle.frame.specs.declared.Header.{Header}
+use Rattle.heading.specs.Heading.{headerOf}
 use Rattle.written.specs.Cells.{blockCount}
 use Rattle.written.specs.Sending.{Fault, fault, sheetFault, countOf, sentText}
+use Rattle.columns.specs.declared.judging.Judged.the-variants.{Good, Bad}
+use Rattle.columns.specs.Judging.{judgedBy}
 use Rattle.send.specs.declared.Sent.{Sent}
 use Rattle.send.specs.declared.Sent.the-variants.{Refused}
-use Rattle.send.specs.declared.one_block.Judged.the-variants.{Good, Bad}
-use Rattle.send.specs.SendSteps.{sentBy, judgedBy, sheetSentFault, sheetAfter}
+use Rattle.send.specs.SendSteps.{sentBy, sheetSentFault, sheetAfter}
 use Rattle.send.specs.WholeSteps.{wholeText, roomFault}
 use Rattle.send.proofs.AnswerLaws.{judged-bad, good-header, good-fine, good-count}
 use Rattle.send.proofs.WholeText.{whole-is}

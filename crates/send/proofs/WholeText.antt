@@ -1,26 +1,25 @@
 -- A whole sheet by its columns is its blocks in order: each column's blocks stand from its start on, and one more is one more piece put.
-use mathlib.Core.List.{List, [], _++_, map}
-use mathlib.Core.Path.{_≡_, sym, _∙_, ap, ap₂}
-use Prim.Native.Nat.{ℕ, zero, suc, _+_, _*_, _≤_, _<_}
-use native.Mathlib.Numerals.{add-one}
+use mathlib.Core.List.{List, _++_, append-assoc, [], map}
+use Prim.Native.Nat.{_≤_, ℕ, _+_, _*_, zero, suc, _<_}
 use native.Mathlib.Omega.{arith}
 use lib.IntN.{ℤ}
-use lib.ListN.{length, take, drop, length-drop}
-use lib.Seq.{take-all, length-take-le}
-use Rattle.sheet.specs.RecordA.{columnsOf, rowsOf}
-use Rattle.sheet.specs.declared.record_a.Header.{Header}
-use Rattle.load.specs.Posts.{blocksFor}
-use Rattle.meaning.specs.Text.{from, below, joined}
-use Rattle.meaning.proofs.Lists.{from-append, map-append, map-shift, joined-append, joined-more, append-brackets}
-use Rattle.spell.specs.Pieces.{Puts}
-use Rattle.spell.proofs.Pieces.{joined as both}
-use Rattle.written.specs.Cells.{cellsSent, startSent, blockCount}
+use mathlib.Core.Path.{_≡_, subst, sym, _∙_, ap, ap₂}
+use lib.ListN.{length, take, drop, length-append, length-drop}
+use lib.Seq.{take-at, length-take-le, take-all}
+use native.Mathlib.Numerals.{add-one}
+use Rattle.laws.specs.Lists.{from, below, joined}
+use Rattle.laws.proofs.Lists.{joined-more, from-append, map-append, map-shift, joined-append, append-brackets}
+use Rattle.numerals.specs.Pieces.{Puts}
+use Rattle.numerals.proofs.Pieces.{joined as both}
+use Rattle.frame.specs.Frame.{columnsOf, rowsOf}
+use Rattle.frame.specs.declared.Header.{Header}
+use Rattle.ground.specs.Posts.{blocksFor}
+use Rattle.written.specs.Cells.{blockCount, cellsSent, startSent}
 use Rattle.written.specs.Blocks.{blockZero, profileBlock, blockSent}
-use Rattle.written.proofs.SheetSent.{first-start, start-next}
+use Rattle.written.proofs.SheetSent.{start-next, first-start}
 use Rattle.written.proofs.BlocksSent.{zero-is, profile-is}
 use Rattle.send.specs.SendSteps.{SendableSheet}
 use Rattle.send.specs.WholeSteps.{blocksText, columnText, columnsText, wholeText}
-use Rattle.send.proofs.ProfileText.{field-put, named}
 use Rattle.send.proofs.ScanLaws.{sizes, start-most}
 
 -- ---- sizes
@@ -32,12 +31,39 @@ count-most {h} {grid} s =
 
 -- ---- pieces put
 
+-- the same piece by another name
+pub named : {before after piece other : List ℕ} {at end : ℕ} → piece ≡ other → Puts before at piece after end
+    → Puts before at other after end
+named {before} {after} {piece} {other} {at} {end} e p = subst (λ (t : List ℕ). Puts before at t after end) e p
+
+-- the stretch that was lent is back with a text in it
+stretch-put : (l text : List ℕ) (at width k : ℕ) → at + width ≤ length l → length text ≡ width → k ≡ width
+    → Puts l at text (take at l ++ (text ++ drop k (drop at l))) (at + width)
+stretch-put l text at width k room long e =
+    let rest = drop k (drop at l) in
+    let front : length (take at l) ≡ at = length-take-le at l (omega arith) in
+    let head : length (take at l ++ text) ≡ at + width = length-append (take at l) text ∙ omega arith in
+    record {
+      kept =
+          omega (
+            arith,
+            length-append (take at l) (text ++ rest),
+            length-append text rest,
+            length-drop k (drop at l),
+            length-drop at l,
+          );
+      place = omega arith;
+      text =
+          ap (take (at + width)) (sym (append-assoc (take at l) text rest))
+          ∙ take-at (take at l ++ text) rest (at + width) head;
+    }
+
 -- the stretch that is lent comes back with a block in it
 pub block-put : (l text : List ℕ) (at k : ℕ) → at + 1024 ≤ length l → k ≡ 1024 → (block : List ℕ) → block ≡ text
     → length block ≡ length (take k (drop at l)) → Puts l at text (take at l ++ (block ++ drop k (drop at l))) (at + 1024)
 block-put l text at k room e block is long =
     let wide : length (take k (drop at l)) ≡ k = length-take-le k (drop at l) (omega (arith, length-drop at l)) in
-    named is (field-put l block at 1024 k room (long ∙ wide ∙ e) e)
+    named is (stretch-put l block at 1024 k room (long ∙ wide ∙ e) e)
 
 module _ (h : Header) (grid : List ℤ) where
   -- one block more of a column's

@@ -1,14 +1,14 @@
 -- What stands between the public answer and one block: contracts of the two private functions behind `write_block`.
-use mathlib.Core.Bool.{cond}
 use mathlib.Core.List.{List}
 use mathlib.Core.Path.{_≡_}
-use Prim.Native.Nat.{ℕ, _-_, _≤_, _<_}
-use lib.Dec.{leb}
+use Prim.Native.Nat.{ℕ, _≤_, _<_, _-_}
 use lib.IntN.{ℤ}
 use lib.ListN.{length}
-use Rattle.sheet.specs.RecordA.{columnsOf}
-use Rattle.sheet.specs.declared.record_a.Header.{Header}
-use Rattle.written.specs.Cells.{startSent, blockCount, columnWith}
+use mathlib.Core.Bool.{cond}
+use lib.Dec.{leb}
+use Rattle.frame.specs.declared.Header.{Header}
+use Rattle.frame.specs.Frame.{columnsOf}
+use Rattle.written.specs.Cells.{blockCount, startSent, columnWith}
 use Rattle.written.specs.Blocks.{profileBlock, blockSent}
 use Rattle.written.specs.Sending.{Fault, fault}
 use Rattle.send.specs.SendSteps.{SendableSheet}

@@ -1,18 +1,12 @@
--- How the code scans a grid: the sizes it asks, what it finds, and extremes from the last cell.
-use Prim.Native.Nat.{ℕ, _+_, _*_, _≤_, _<_}
-use mathlib.Core.Bool.{true, false, cond, not}
+-- The sizes that the code asks of a grid, and what it finds of a block there.
+use Prim.Native.Nat.{ℕ, _*_, _≤_, _+_, _<_}
 use mathlib.Core.List.{List}
-use mathlib.Core.Path.{_≡_}
-use lib.IntN.{ℤ, pos}
+use lib.IntN.{ℤ}
 use lib.ListN.{length}
-use Rattle.sheet.specs.RecordA.{lesser, greater}
-use Rattle.load.specs.Posts.{void, sameZ, blocksFor}
-use Rattle.meaning.specs.Rules.{filledOnly, leastOf, greatestOf}
-use Rattle.written.specs.Cells.{isNone, columnAt, firstRow, profileCells, startAt, columnFor}
+use mathlib.Core.Path.{_≡_}
+use Rattle.ground.specs.Posts.{blocksFor}
+use Rattle.written.specs.Cells.{columnAt, firstRow, profileCells, startAt, columnFor}
 use Rattle.send.specs.declared.scan.Found.{Found}
-use Rattle.send.specs.declared.scan.Running.{Running}
-
--- ---- columns and blocks
 
 -- the sizes that record A's rules leave, in a grid that has the cells
 pub record Sizes (columns rows : ℕ) (grid : List ℤ) : Type 0 where
@@ -30,18 +24,3 @@ pub record Finds (columns rows : ℕ) (grid : List ℤ) (number : ℕ) (r : Foun
   pub column-within : r .column < columns
   pub not-before : r .start ≤ number
   pub not-behind : number < r .start + blocksFor (r .posts)
-
--- ---- extremes, from the last cell
-
-abbrev pub noCell : Running
-noCell = record { some = false; low = pos 0; high = pos 0 }
-
-abbrev pub withCell : ℤ → Running → Running
-withCell cell t =
-    cond (sameZ cell void) t
-    (cond (t .some) (record { some = true; low = lesser cell (t .low); high = greater cell (t .high) })
-    (record { some = true; low = cell; high = cell }))
-
-abbrev pub running : List ℤ → Running
-running cells =
-    record { some = not (isNone (filledOnly cells)); low = leastOf (filledOnly cells); high = greatestOf (filledOnly cells) }

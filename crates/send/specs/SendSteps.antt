@@ -1,24 +1,21 @@
 -- How the writer takes its work apart: contracts of private functions, and the cases of its answers. The public promises cite
 -- `sentBy`, `blockFault`, `blockAfter` and `countOf`, `sheetSentFault`, `sheetAfter` alone.
-use mathlib.Core.Bool.{true, cond}
-use mathlib.Core.List.{List}
-use mathlib.Core.Path.{_≡_}
-use Prim.Native.Nat.{ℕ, _*_, _≤_, _<_}
+use mathlib.Core.Bool.{cond, true}
 use lib.Dec.{eqb}
+use mathlib.Core.List.{List}
+use Prim.Native.Nat.{ℕ, _*_, _≤_, _<_}
 use lib.IntN.{ℤ}
 use lib.ListN.{length}
-use Rattle.sheet.specs.RecordA.{columnsOf}
-use Rattle.sheet.specs.declared.record_a.Header.{Header}
-use Rattle.session.specs.Session.{headerObeys}
-use Rattle.load.specs.Posts.{blocksFor}
-use Rattle.load.specs.Deliver.{cellsOf, zOf}
+use mathlib.Core.Path.{_≡_}
+use Rattle.frame.specs.declared.Header.{Header}
+use Rattle.frame.specs.Frame.{cellsOf, zOf, columnsOf}
+use Rattle.heading.specs.Heading.{headerObeys}
+use Rattle.ground.specs.Posts.{blocksFor}
+use Rattle.written.specs.Sending.{Fault, fault, first, sheetFault, countOf, sentText}
 use Rattle.written.specs.Cells.{sendable, columnCells, firstRow, cellsSent}
 use Rattle.written.specs.Blocks.{sheetCells}
-use Rattle.written.specs.Sending.{Fault, fault, first, sheetFault, countOf, sentText}
 use Rattle.send.specs.declared.Sent.{Sent}
 use Rattle.send.specs.declared.Sent.the-variants.{Written, Refused}
-use Rattle.send.specs.declared.one_block.Judged.{Judged}
-use Rattle.send.specs.declared.one_block.Judged.the-variants.{Good, Bad}
 
 -- "Kinds in order, each with one number": the cases of an answer
 abbrev pub sentBy : Fault → Sent
@@ -35,10 +32,6 @@ sheetAfter template grid out =
     cond (eqb (sheetSentFault template grid (length out) .kind) 0) (sentText template grid (countOf template grid)) out
 
 -- ---- private
-
--- a template and grid judged
-abbrev pub judgedBy : Header → Fault → Judged
-judgedBy h f = cond (eqb (f .kind) 0) (Good h) (Bad (f .kind) (f .number))
 
 -- a sheet that can be sent: its header keeps record A's rules, the grid has its cells, each can be sent
 pub record SendableSheet (h : Header) (grid : List ℤ) : Type 0 where

@@ -1,17 +1,17 @@
 -- A whole sheet by its columns: what each function of it writes and asks; WholeText has that these are the blocks sent.
-use mathlib.Core.Bool.{cond}
-use mathlib.Core.List.{List, _++_, map}
-use mathlib.Core.Path.{_≡_}
-use Prim.Native.Nat.{ℕ, _+_, _*_, _≤_, _<_}
-use lib.Dec.{eqb}
+use mathlib.Core.List.{List, map, _++_}
+use Prim.Native.Nat.{ℕ, _*_, _+_, _≤_, _<_}
 use lib.IntN.{ℤ}
 use lib.ListN.{length}
-use Rattle.sheet.specs.RecordA.{columnsOf}
-use Rattle.sheet.specs.declared.record_a.Header.{Header}
-use Rattle.load.specs.Posts.{blocksFor}
-use Rattle.meaning.specs.Text.{below, joined}
+use mathlib.Core.Bool.{cond}
+use lib.Dec.{eqb}
+use mathlib.Core.Path.{_≡_}
+use Rattle.laws.specs.Lists.{below, joined}
+use Rattle.frame.specs.declared.Header.{Header}
+use Rattle.frame.specs.Frame.{columnsOf}
+use Rattle.ground.specs.Posts.{blocksFor}
+use Rattle.written.specs.Blocks.{profileBlock, blockZero}
 use Rattle.written.specs.Cells.{cellsSent, blockCount}
-use Rattle.written.specs.Blocks.{blockZero, profileBlock}
 use Rattle.written.specs.Sending.{Fault, fault}
 use Rattle.send.specs.SendSteps.{SendableSheet}
 

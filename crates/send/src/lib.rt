@@ -1,12 +1,11 @@
 // Sheets written from a lent grid: document 01, "Writing".
 mod one_block;
-mod profile_blocks;
 mod scan;
 mod whole_sheet;
-mod zero;
 
-use one_block::Judged;
-use sheet::record_a::Header;
+use columns::judging;
+use columns::judging::Judged;
+use frame::Header;
 ghost use mathlib.Core.Path.{_≡_};
 ghost use lib.ListN.{length};
 ghost use Rattle.written.specs.Sending.{blockFault, blockAfter, countOf};
@@ -23,7 +22,7 @@ pub enum Sent {
 pub fn block_count(template: &[u8], grid: &[i32]) -> u64
     ensures { λ r. ⌜ r ≡ countOf (now (template .entry)) (now (grid .entry)) ⌝ }
 {
-    let judged = one_block::judge_sheet(template, grid);
+    let judged = judging::judge_sheet(template, grid);
     match judged {
         Judged::Bad(_kind, _number) => 0,
         Judged::Good(h) => one_block::count_of(h, grid),
@@ -69,7 +68,7 @@ pub fn write_block(template: &[u8], grid: &[i32], number: u64, block: &mut [u8])
     if block.len() != 1024 {
         return Sent::Refused(1, 0);
     }
-    let judged = one_block::judge_sheet(template, grid);
+    let judged = judging::judge_sheet(template, grid);
     match judged {
         Judged::Bad(kind, n) => Sent::Refused(kind, n),
         Judged::Good(h) => write_number(template, h, grid, number, block),
@@ -81,7 +80,7 @@ pub fn write_block(template: &[u8], grid: &[i32], number: u64, block: &mut [u8])
 pub fn write_sheet(template: &[u8], grid: &[i32], out: &mut [u8]) -> Sent
     ensures { λ r. ⌜ (r ≡ sentBy (sheetSentFault (now (template .entry)) (now (grid .entry)) (length (now (out .entry))))) × (now (out .exit) ≡ sheetAfter (now (template .entry)) (now (grid .entry)) (now (out .entry))) ⌝ }
 {
-    let judged = one_block::judge_sheet(template, grid);
+    let judged = judging::judge_sheet(template, grid);
     match judged {
         Judged::Bad(kind, n) => Sent::Refused(kind, n),
         Judged::Good(h) => whole_sheet::write_fitting(template, h, grid, out),

@@ -2,18 +2,18 @@
 use crate::Sent;
 use crate::one_block;
 use crate::scan;
-use sheet::record_a::Header;
+use frame::Header;
 ghost use mathlib.Core.Path.{_≡_};
 ghost use mathlib.Core.Bool.{cond};
 ghost use Prim.Native.Nat.{_+_, _*_};
 ghost use lib.Dec.{eqb};
 ghost use lib.ListN.{length};
-ghost use Rattle.spell.specs.Pieces.{Puts};
+ghost use Rattle.numerals.specs.Pieces.{Puts};
 ghost use Rattle.send.specs.SendSteps.{sentBy};
 ghost use Rattle.send.specs.WholeSteps.{ColumnAsked, ColumnsAsked, BlocksAsked, FitAsked, columnText, columnsText, wholeText, roomFault};
-ghost use Rattle.sheet.specs.RecordA.{columnsOf};
+ghost use Rattle.frame.specs.Frame.{columnsOf};
 ghost use Rattle.written.specs.Cells.{blockCount, cellsSent};
-ghost use Rattle.load.specs.Posts.{blocksFor};
+ghost use Rattle.ground.specs.Posts.{blocksFor};
 
 // The blocks of one column's profile, one behind the other; returns where the next column's begin.
 fn write_column(h: Header, grid: &[i32], column: usize, at: usize, out: &mut [u8]) -> usize
@@ -21,7 +21,7 @@ fn write_column(h: Header, grid: &[i32], column: usize, at: usize, out: &mut [u8
     ensures { λ r. ⌜ Puts (now (out .entry)) at (columnText h (now (grid .entry)) column) (now (out .exit)) r × (r ≡ at + 1024 * blocksFor (length (cellsSent h (now (grid .entry)) column))) ⌝ }
 {
     let found = scan::column_at(one_block::rows_of(h), grid, column);
-    let blocks = scan::blocks_for(found.posts);
+    let blocks = columns::blocks_for(found.posts);
     let mut from = at;
     let mut k = 0;
     while k < blocks {

@@ -1,42 +1,16 @@
--- A word is the cell that two's complement says; the cells of the bytes read so far, and those of the bytes after them.
-use mathlib.Core.List.{List, [], _∷_, _++_}
-use mathlib.Core.Path.{_≡_, refl, sym, _∙_, ap, subst⁻¹}
-use Prim.Native.Nat.{ℕ, zero, suc, _+_, _*_, _^_, _/_, _%_, _≤_, _<_}
+-- The cells of the bytes read so far, and those of the bytes after them: a turn sets the next cell, of four bytes.
+use mathlib.Core.List.{List, _∷_, [], _++_}
+use mathlib.Core.Path.{_≡_, sym, _∙_, ap, refl}
+use Prim.Native.Nat.{ℕ, _+_, _<_, _≤_, zero, suc, _*_, _%_, _/_}
 use native.Mathlib.Numerals.{add-one}
+use lib.ListN.{length, getD, drop, take, set, length-set}
+use lib.Seq.{drop-cons, take-suc-set, append-snoc, drop-length, take-length}
 use native.Mathlib.Omega.{arith}
-use borrow.Author.Tests.{lt-ltb, le-ltb, le-leb, lt-leb, eq-eqb, ne-eqb}
-use lib.IntN.{ℤ, pos, negsuc, negℤ, _-ℤ_}
-use lib.ListN.{length, getD, take, drop, set, length-set}
-use lib.Seq.{drop-cons, drop-length, take-length, take-suc-set, append-snoc}
-use mir.Syntax.{w32, w64}
-use mir.Val.{SFits, toZ}
-use mir.Facts.{toZ-pos, sfits-widen}
-use Rattle.laws.proofs.Integers.{above, below, sum-parts}
-use Rattle.sender.specs.Input.{twos, cellAt, cellsFrom, countOf}
-use Rattle.sender.specs.declared.input.Cells.the-variants.{Count, Bad}
-
--- the least number of 32 bits lies one further from zero than the greatest
-within : (z : ℤ) → above z < 2 ^ 31 → below z ≤ 2 ^ 31 → SFits w32 z
-within (pos n) a b = record { sfits = a }
-within (negsuc n) a b = record { sfits = omega arith }
-
-pub low-word : (n : ℕ) → n < 2147483648 → twos n ≡ pos n
-low-word n h = simp (lt-ltb n 2147483648 h)
-
-pub high-word : (n : ℕ) → 2147483648 ≤ n → twos n ≡ pos n -ℤ pos 4294967296
-high-word n h = simp (le-ltb n 2147483648 h)
-
-pub lowered-fits : (n : ℕ) → 2147483648 ≤ n → n < 2 ^ 32 → SFits w32 (pos n -ℤ pos 4294967296)
-lowered-fits n h k =
-    let s = sum-parts (pos n) (negℤ (pos 4294967296)) in
-    within (pos n -ℤ pos 4294967296) (omega (arith, s .above-is)) (omega (arith, s .below-is))
-
--- what the machine works out in 64 bits, and that it fits
-pub lowered : (n : ℕ) → n < 2 ^ 32 → toZ w64 n -ℤ pos 4294967296 ≡ pos n -ℤ pos 4294967296
-lowered n h = ap (λ (z : ℤ). z -ℤ pos 4294967296) (toZ-pos w64 {n = n} (omega arith))
-
-pub lowered-fits-64 : (n : ℕ) → 2147483648 ≤ n → n < 2 ^ 32 → SFits w64 (toZ w64 n -ℤ pos 4294967296)
-lowered-fits-64 n h k = subst⁻¹ (SFits w64) (lowered n k) (sfits-widen {w = w32} tt (lowered-fits n h k))
+use borrow.Author.Tests.{lt-leb, le-leb, ne-eqb, eq-eqb}
+use lib.IntN.{ℤ}
+use Rattle.words.specs.Words.{cellAt}
+use Rattle.sender.specs.Input.{cellsFrom, countOf}
+use Rattle.sender.specs.declared.input.Cells.the-variants.{Bad, Count}
 
 next : (text : List ℕ) (j k : ℕ) → k ≡ j + 1 → j < length text → drop j text ≡ getD text j 0 ∷ drop k text
 next text j k e h = drop-cons text j 0 h ∙ ap (λ (i : ℕ). getD text j 0 ∷ drop i text) (sym (e ∙ add-one j))

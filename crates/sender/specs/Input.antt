@@ -1,29 +1,15 @@
 -- DESIGN, "Programs' interfaces", `sender`: what the bytes after a template say.
-use mathlib.Core.Bool.{Bool, cond}
 use mathlib.Core.List.{List, [], _∷_}
+use Prim.Native.Nat.{ℕ, _*_, _%_, _≤_}
+use lib.IntN.{ℤ}
+use mathlib.Core.Bool.{Bool, cond}
+use lib.Dec.{eqb, leb}
+use lib.ListN.{length}
 use mathlib.Core.Path.{_≡_}
-use Prim.Native.Nat.{ℕ, _+_, _*_, _≤_, _%_}
-use lib.Dec.{eqb, ltb, leb}
-use lib.IntN.{ℤ, pos, _-ℤ_}
-use lib.ListN.{length, getD}
 use Rattle.laws.specs.Sign.{_and_}
+use Rattle.words.specs.Words.{cellOf}
 use Rattle.sender.specs.declared.input.Cells.{Cells}
 use Rattle.sender.specs.declared.input.Cells.the-variants.{Count, Bad}
-
--- "Numbers of four bytes stand largest byte first."
-abbrev pub wordOf : ℕ → ℕ → ℕ → ℕ → ℕ
-wordOf a b c d = ((a * 256 + b) * 256 + c) * 256 + d
-
--- "two's complement": from 2 ^ 31 = 2147483648 on, a word is the number that lies 2 ^ 32 = 4294967296 below it
-abbrev pub twos : ℕ → ℤ
-twos n = cond (ltb n 2147483648) (pos n) (pos n -ℤ pos 4294967296)
-
-abbrev pub cellOf : ℕ → ℕ → ℕ → ℕ → ℤ
-cellOf a b c d = twos (wordOf a b c d)
-
--- the cell whose first byte is that at a place
-abbrev pub cellAt : List ℕ → ℕ → ℤ
-cellAt text at = cellOf (getD text at 0) (getD text (at + 1) 0) (getD text (at + 2) 0) (getD text (at + 3) 0)
 
 -- "then cells (four bytes each ..)": all of them, in their order
 unfoldable pub cellsFrom : List ℕ → List ℤ

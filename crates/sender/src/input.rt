@@ -1,46 +1,13 @@
 // What the bytes after a template say.
 ghost use mathlib.Core.Path.{_≡_};
-ghost use Prim.Native.Nat.{_+_, _*_, _≤_, _<_, _^_};
+ghost use Prim.Native.Nat.{_*_};
 ghost use lib.ListN.{length};
-ghost use Rattle.sender.specs.Input.{wordOf, twos, cellAt, cellsFrom, countOf, Fitting};
+ghost use Rattle.sender.specs.Input.{cellsFrom, countOf, Fitting};
 
 // How many cells stand there.
 pub enum Cells {
     Count(usize),
     Bad,
-}
-
-fn wide(b: u8) -> u64
-    ensures { λ r. ⌜ r ≡ b ⌝ }
-    ensures { λ r. ⌜ r < 256 ⌝ }
-{
-    b as u64
-}
-
-fn word(a: u8, b: u8, c: u8, d: u8) -> u64
-    ensures { λ r. ⌜ r ≡ wordOf a b c d ⌝ }
-    ensures { λ r. ⌜ r < 2 ^ 32 ⌝ }
-{
-    ((wide(a) * 256 + wide(b)) * 256 + wide(c)) * 256 + wide(d)
-}
-
-// The number of 32 bits that two's complement writes as this word.
-fn cell_of(n: u64) -> i32
-    requires { ⌜ n < 2 ^ 32 ⌝ }
-    ensures { λ r. ⌜ r ≡ twos n ⌝ }
-{
-    if n < 2147483648 {
-        return n as i32;
-    }
-    let z = n as i64 - 4294967296;
-    z as i32
-}
-
-fn cell_at(text: &[u8], at: usize) -> i32
-    requires { ⌜ at + 4 ≤ length (now text) ⌝ }
-    ensures { λ r. ⌜ r ≡ cellAt (now (text .entry)) at ⌝ }
-{
-    cell_of(word(text[at], text[at + 1], text[at + 2], text[at + 3]))
 }
 
 // Every cell that the bytes say, in their order.
@@ -50,7 +17,7 @@ pub(crate) fn decode(text: &[u8], grid: &mut [i32])
 {
     let mut i = 0;
     while i < grid.len() {
-        let z = cell_at(text, 4 * i);
+        let z = words::cell_at(text, 4 * i);
         grid[i] = z;
         i += 1;
     }

@@ -3,23 +3,14 @@ use mathlib.Core.Bool.{Bool, true, false}
 use mathlib.Core.Path.{_≡_, refl}
 use Prim.Native.Nat.{_≤_}
 use native.Mathlib.Omega.{arith}
-use Rattle.laws.specs.Sign.{_and_}
-use Rattle.laws.proofs.Tests.{and-first, and-second}
+use Rattle.laws.specs.Sign.{implies, _and_}
+use Rattle.laws.proofs.Tests.{and-first, and-second, asked}
+use Rattle.heading.specs.Heading.{headerObeys}
+use Rattle.heading.proofs.HeadingFacts.{header-facts}
 use Rattle.session.specs.declared.Session.{Session}
-use Rattle.session.specs.Session.{
-  implies,
-  headerObeys,
-  busy,
-  profileObeys,
-  openRead,
-  openBlocks,
-  closedObeys,
-  columnObeys,
-  finishObeys,
-  begunObeys,
-}
+use Rattle.session.specs.Session.{busy, openRead, openBlocks, profileObeys, closedObeys, columnObeys, finishObeys, begunObeys}
 use Rattle.session.specs.Steps.{Bounded, placesObey, countsObey}
-use Rattle.session.proofs.Facts.{asked, header-facts, Profiling, profile-facts, closed-facts, finish-facts}
+use Rattle.session.proofs.Facts.{Profiling, profile-facts, closed-facts, finish-facts}
 
 pub blocks-few : (s : Session) → openRead s ≤ 2048 → openBlocks s ≤ 13
 blocks-few s h = go (busy s) refl

@@ -1,4 +1,3 @@
-pub mod Told
 pub mod Facts
 pub mod Bounds
 pub mod Sound

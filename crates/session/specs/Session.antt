@@ -1,42 +1,17 @@
 -- Document 01, "What a delivery answers": the session, the fresh one, and when a session is sound.
-use mathlib.Core.Bool.{Bool, true, cond, not}
-use Prim.Native.Nat.{ℕ, _+_, _*_, _-_, _/_, _%_, _^_}
-use lib.IntN.{ℤ, pos, natAbs}
-use lib.Dec.{leb, ltb, eqb}
+use lib.IntN.{pos, natAbs, ℤ}
+use Prim.Native.Nat.{ℕ, _+_, _-_, _%_, _/_, _*_}
+use mathlib.Core.Bool.{Bool, not, cond, true}
+use lib.Dec.{eqb, leb, ltb}
 use lib.Signed.{leZ}
-use Rattle.laws.specs.Sign.{isZero, _and_}
-use Rattle.laws.specs.Digits.{short}
-use Rattle.sheet.specs.RecordA.{limits, zoneLimits, groundLimits, heightLimits, inRange, columnsOf, rowsOf, wholeFault, billion}
-use Rattle.sheet.specs.declared.record_a.Corner.{Corner}
-use Rattle.sheet.specs.declared.record_a.Header.{Header}
+use Rattle.laws.specs.Sign.{isZero, _and_, implies}
+use Rattle.frame.specs.declared.Header.{Header}
+use Rattle.frame.specs.Frame.{rowsOf, columnsOf}
+use Rattle.heading.specs.Heading.{freshHeader, zeroHeader, isRealNumber, headerObeys}
 use Rattle.session.specs.declared.Profile.{Profile}
 use Rattle.session.specs.declared.Session.{Session}
 
 -- ---- fresh: all fields zero
-
-abbrev pub freshCorner : Corner
-freshCorner = record { x = pos 0; y = pos 0 }
-
-abbrev pub freshHeader : Header
-freshHeader =
-    record {
-      level = 0;
-      system = 0;
-      zone = 0;
-      ground = 0;
-      vertical = 0;
-      sw = freshCorner;
-      nw = freshCorner;
-      ne = freshCorner;
-      se = freshCorner;
-      least = pos 0;
-      greatest = pos 0;
-      accuracy = 0;
-      xstep = 0;
-      ystep = 0;
-      zstep = 0;
-      profiles = 0;
-    }
 
 -- no profile open
 abbrev pub noProfile : Profile
@@ -62,16 +37,6 @@ unread h taken =
 abbrev pub fresh : Session
 fresh = unread freshHeader 0
 
-abbrev pub zeroCorner : Corner → Bool
-zeroCorner c = isZero (c .x) and isZero (c .y)
-
-abbrev pub zeroHeader : Header → Bool
-zeroHeader h =
-    eqb (h .level) 0 and eqb (h .system) 0 and eqb (h .zone) 0 and eqb (h .ground) 0 and eqb (h .vertical) 0
-    and zeroCorner (h .sw) and zeroCorner (h .nw) and zeroCorner (h .ne) and zeroCorner (h .se)
-    and isZero (h .least) and isZero (h .greatest) and eqb (h .accuracy) 0
-    and eqb (h .xstep) 0 and eqb (h .ystep) 0 and eqb (h .zstep) 0 and eqb (h .profiles) 0
-
 abbrev pub zeroProfile : Profile → Bool
 zeroProfile p =
     eqb (p .posts) 0 and eqb (p .row) 0 and isZero (p .datum) and isZero (p .least) and isZero (p .greatest)
@@ -83,34 +48,6 @@ isFresh s =
     and isZero (s .low) and isZero (s .high) and eqb (s .column) 0 and eqb (s .finished) 0 and zeroProfile (s .profile)
 
 -- ---- the clauses of "A session is sound exactly if .."
-
-abbrev pub implies : Bool → Bool → Bool
-implies a b = cond a b true
-
--- what a real field can hold
-abbrev pub isRealNumber : ℤ → Bool
-isRealNumber z = ltb (natAbs z) (10 ^ 18) and short 18 15 (natAbs z)
-
-abbrev pub cornerReal : Corner → Bool
-cornerReal c = isRealNumber (c .x) and isRealNumber (c .y)
-
--- "its header numbers obey record A": the fields' rules
-abbrev pub fieldsObey : Header → Bool
-fieldsObey h =
-    inRange (limits 1 3 1 9) (h .level) and inRange (limits 0 2 1 9) (h .system) and inRange (zoneLimits (h .system)) (h .zone)
-    and inRange (groundLimits (h .system)) (h .ground) and inRange (limits 1 2 1 9) (h .vertical)
-    and inRange (limits 0 1 1 9) (h .accuracy) and inRange (limits billion (9999 * billion) billion 7) (h .xstep)
-    and inRange (limits billion (9999 * billion) billion 7) (h .ystep) and inRange (heightLimits (h .vertical)) (h .zstep)
-    and inRange (limits 1 2048 1 7) (h .profiles)
-
-abbrev pub realsObey : Header → Bool
-realsObey h =
-    cornerReal (h .sw) and cornerReal (h .nw) and cornerReal (h .ne) and cornerReal (h .se)
-    and isRealNumber (h .least) and isRealNumber (h .greatest)
-
--- and the rules over the whole record
-abbrev pub headerObeys : Header → Bool
-headerObeys h = fieldsObey h and realsObey h and eqb (wholeFault h .kind) 0
 
 -- a profile is open where it has posts stated
 abbrev pub busy : Session → Bool
@@ -171,3 +108,13 @@ begunObeys s =
 
 unfoldable pub sound : Session → Bool
 sound s = cond (isFresh s) true (begunObeys s)
+
+-- "sheet complete": block 0 taken, n closed and, with accuracy 1, record C taken
+abbrev pub complete : Session → Bool
+complete s =
+    not (eqb (s .taken) 0) and eqb (s .closed) (s .header .profiles)
+    and cond (eqb (s .header .accuracy) 1) (eqb (s .finished) 1) true
+
+-- "After block 0: those, taken 1, all else zero"
+abbrev pub begun : Header → Session
+begun h = unread h 1

@@ -1,117 +1,21 @@
 // The clauses of a session that has begun, in document 01's order.
 use crate::Profile;
 use crate::Session;
-use crate::joined::all3;
-use crate::joined::all4;
-use crate::joined::both;
-use crate::joined::either;
-use crate::joined::implied;
-use sheet::lattice;
-use sheet::record_a;
-use sheet::record_a::Corner;
-use sheet::record_a::Header;
+use figures::all3;
+use figures::all4;
+use figures::both;
+use figures::either;
+use figures::implied;
+use frame::Header;
 ghost use mathlib.Core.Path.{_≡_};
 ghost use Prim.Native.Nat.{_+_};
 ghost use lib.Dec.{leb};
 ghost use lib.IntN.{natAbs};
 ghost use Rattle.laws.specs.Digits.{short};
-ghost use Rattle.sheet.specs.RecordA.{inRange, limits, zoneLimits, groundLimits, heightLimits};
-ghost use Rattle.session.specs.Session.{isRealNumber, cornerReal, fieldsObey, realsObey, headerObeys, busy, profileObeys, openRead, openBlocks, extremesObey, closedObeys, columnObeys, postsObey, finishObeys, takenObeys, begunObeys};
-ghost use Rattle.session.specs.Steps.{spacingsObey, readObeys, placesObey, countsObey, Bounded};
-
-// At most 15 digits from the first to the last that is not zero.
-fn is_short(n: u64) -> bool
-    ensures { λ r. ⌜ r ≡ short 18 15 n ⌝ }
-{
-    if n >= 100000000000000000 {
-        return n % 1000 == 0;
-    }
-    if n >= 10000000000000000 {
-        return n % 100 == 0;
-    }
-    if n >= 1000000000000000 {
-        return n % 10 == 0;
-    }
-    true
-}
-
-fn is_real_number(z: i64) -> bool
-    ensures { λ r. ⌜ r ≡ isRealNumber z ⌝ }
-{
-    let n = number::size_of(z);
-    both(n < 1000000000000000000, is_short(n))
-}
-
-fn corner_real(c: Corner) -> bool
-    ensures { λ r. ⌜ r ≡ cornerReal c ⌝ }
-{
-    both(is_real_number(c.x), is_real_number(c.y))
-}
-
-fn reals_obey(h: Header) -> bool
-    ensures { λ r. ⌜ r ≡ realsObey h ⌝ }
-{
-    let sw = h.sw;
-    let nw = h.nw;
-    let ne = h.ne;
-    let se = h.se;
-    let rest = all3(
-        corner_real(se),
-        is_real_number(h.least),
-        is_real_number(h.greatest),
-    );
-    all4(corner_real(sw), corner_real(nw), corner_real(ne), rest)
-}
-
-fn stands_in(least: u64, greatest: u64, step: u64, v: u64) -> bool
-    ensures { λ r. ⌜ r ≡ inRange (limits least greatest step 0) v ⌝ }
-{
-    record_a::in_range(record_a::limits_of(least, greatest, step, 0), v)
-}
-
-fn zone_obeys(h: Header) -> bool
-    ensures { λ r. ⌜ r ≡ inRange (zoneLimits (h .system)) (h .zone) ⌝ }
-{
-    record_a::in_range(record_a::zone_limits(h.system), h.zone)
-}
-
-fn ground_obeys(h: Header) -> bool
-    ensures { λ r. ⌜ r ≡ inRange (groundLimits (h .system)) (h .ground) ⌝ }
-{
-    record_a::in_range(record_a::ground_limits(h.system), h.ground)
-}
-
-fn height_obeys(h: Header) -> bool
-    ensures { λ r. ⌜ r ≡ inRange (heightLimits (h .vertical)) (h .zstep) ⌝ }
-{
-    record_a::in_range(record_a::height_limits(h.vertical), h.zstep)
-}
-
-fn spacings_obey(h: Header) -> bool
-    ensures { λ r. ⌜ r ≡ spacingsObey h ⌝ }
-{
-    let x = stands_in(1000000000, 9999000000000, 1000000000, h.xstep);
-    let y = stands_in(1000000000, 9999000000000, 1000000000, h.ystep);
-    all4(x, y, height_obeys(h), stands_in(1, 2048, 1, h.profiles))
-}
-
-fn fields_obey(h: Header) -> bool
-    ensures { λ r. ⌜ r ≡ fieldsObey h ⌝ }
-{
-    let level = stands_in(1, 3, 1, h.level);
-    let system = stands_in(0, 2, 1, h.system);
-    let vertical = stands_in(1, 2, 1, h.vertical);
-    let accuracy = stands_in(0, 1, 1, h.accuracy);
-    let rest = all4(ground_obeys(h), vertical, accuracy, spacings_obey(h));
-    all4(level, system, zone_obeys(h), rest)
-}
-
-fn header_obeys(h: Header) -> bool
-    ensures { λ r. ⌜ r ≡ headerObeys h ⌝ }
-{
-    let whole = record_a::judge_whole(h);
-    all3(fields_obey(h), reals_obey(h), whole.kind == 0)
-}
+ghost use Rattle.field.specs.Field.{inRange, limits};
+ghost use Rattle.heading.specs.Heading.{zoneLimits, groundLimits, heightLimits, isRealNumber, cornerReal, fieldsObey, realsObey, headerObeys, spacingsObey};
+ghost use Rattle.session.specs.Session.{busy, profileObeys, openRead, openBlocks, extremesObey, closedObeys, columnObeys, postsObey, finishObeys, takenObeys, begunObeys};
+ghost use Rattle.session.specs.Steps.{readObeys, placesObey, countsObey, Bounded};
 
 fn is_busy(s: Session) -> bool
     ensures { λ r. ⌜ r ≡ busy s ⌝ }
@@ -133,11 +37,11 @@ fn read_obeys(p: Profile) -> bool
 fn profile_obeys(h: Header, p: Profile) -> bool
     ensures { λ r. ⌜ r ≡ profileObeys h p ⌝ }
 {
-    let rows = record_a::row_lattice(h);
+    let rows = frame::row_lattice(h);
     let room = lattice::leaves_room(p.row, p.posts, rows.count);
     let rest = all3(
-        is_real_number(p.least),
-        is_real_number(p.greatest),
+        heading::is_real_number(p.least),
+        heading::is_real_number(p.greatest),
         read_obeys(p),
     );
     all4(
@@ -156,19 +60,6 @@ fn open_read(s: Session) -> u64
         return 0;
     }
     p.read
-}
-
-fn open_blocks(s: Session) -> u64
-    ensures { λ r. ⌜ r ≡ openBlocks s ⌝ }
-{
-    let p = s.profile;
-    if p.posts == 0 {
-        return 0;
-    }
-    if p.read < 146 {
-        return 1;
-    }
-    (p.read - 146) / 170 + 1
 }
 
 fn is_extreme(z: i64) -> bool
@@ -200,7 +91,7 @@ fn column_obeys(s: Session) -> bool
     ensures { λ r. ⌜ r ≡ columnObeys s ⌝ }
 {
     let h = s.header;
-    let columns = record_a::column_lattice(h);
+    let columns = frame::column_lattice(h);
     let begun = either(is_busy(s), 0 < s.closed);
     implied(
         begun,
@@ -228,7 +119,7 @@ fn places_obey(s: Session) -> bool
     let p = s.profile;
     let profile = implied(is_busy(s), profile_obeys(h, p));
     all3(
-        header_obeys(h),
+        heading::header_obeys(h),
         closed_obeys(s),
         all3(profile, column_obeys(s), finish_obeys(s)),
     )
@@ -253,7 +144,7 @@ fn taken_obeys(s: Session) -> bool
     requires { ⌜ Bounded s ⌝ }
     ensures { λ r. ⌜ r ≡ takenObeys s ⌝ }
 {
-    let blocks = open_blocks(s);
+    let blocks = crate::open_blocks(s);
     both(
         1 + s.closed + blocks + s.finished <= s.taken,
         s.taken <= 1 + 13 * s.closed + blocks + s.finished,

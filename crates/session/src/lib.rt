@@ -1,12 +1,11 @@
 // The session of a sheet that is being loaded: document 01, "What a delivery answers".
 mod clauses;
-mod joined;
 mod zero;
 
-use sheet::record_a::Corner;
-use sheet::record_a::Header;
+use frame::Corner;
+use frame::Header;
 ghost use mathlib.Core.Path.{_≡_};
-ghost use Rattle.session.specs.Session.{fresh, sound};
+ghost use Rattle.session.specs.Session.{fresh, begun, sound, complete, openBlocks};
 
 // The open profile: none where `posts` is 0. Stated extremes are in billionths, datum and running extremes in hundredths.
 pub struct Profile {
@@ -91,4 +90,37 @@ pub fn is_sound(s: Session) -> bool
         return true;
     }
     clauses::begun_obeys(s)
+}
+
+// After block 0: its header, one block taken, all else zero.
+pub fn begun(header: Header) -> Session
+    ensures { λ r. ⌜ r ≡ begun header ⌝ }
+{
+    let mut s = new();
+    s.header = header;
+    s.taken = 1;
+    s
+}
+
+// Block 0 taken, every profile closed and, where record C is announced, that taken too.
+pub fn is_complete(s: Session) -> bool
+    ensures { λ r. ⌜ r ≡ complete s ⌝ }
+{
+    let h = s.header;
+    let last = figures::implied(h.accuracy == 1, s.finished == 1);
+    figures::all3(s.taken != 0, s.closed == h.profiles, last)
+}
+
+// The blocks taken of the open profile; none where no profile is open.
+pub fn open_blocks(s: Session) -> u64
+    ensures { λ r. ⌜ r ≡ openBlocks s ⌝ }
+{
+    let p = s.profile;
+    if p.posts == 0 {
+        return 0;
+    }
+    if p.read < 146 {
+        return 1;
+    }
+    (p.read - 146) / 170 + 1
 }

@@ -1,42 +1,31 @@
 -- The rules of a row say what its reading says: carried by the few kinds that a reading of a fitting length can have.
-use mathlib.Core.Bool.{Bool, true, false, cond, not}
+use mathlib.Core.Bool.{cond, Bool, not, true, false}
 use mathlib.Core.List.{List, [], _∷_, _++_}
+use Prim.Native.Nat.{ℕ, _*_, _/_, _%_, _^_, _+_, _-_, _≤_}
 use mathlib.Core.Path.{_≡_, refl, sym, _∙_}
-use Prim.Native.Nat.{ℕ, _+_, _*_, _-_, _/_, _%_, _^_, _≤_}
+use lib.Dec.{eqb, leb}
+use borrow.Author.Tests.{eqb-true, not-true, leb-true}
 use native.Mathlib.Omega.{arith}
-use borrow.Author.Tests.{leb-true, eqb-true, not-true}
-use lib.Dec.{leb, eqb}
 use lib.ListN.{length, length-take, length-drop}
 use Rattle.laws.specs.Digits.{short}
 use Rattle.laws.specs.Sign.{_and_}
+use Rattle.laws.specs.Texts.{every}
+use Rattle.laws.proofs.Tests.{either, clash, and-first, and-second, by-test}
 use Rattle.laws.proofs.Tables.{all}
-use Rattle.laws.proofs.Tests.{clash, either, and-first, and-second}
 use Rattle.number.specs.declared.Reading.{Reading}
-use Rattle.number.specs.Grammar.{every}
 use Rattle.number.specs.Integer.{integer, integerForm, unsignedPart}
-use Rattle.number.specs.Real.{real, realForm, billionths}
+use Rattle.number.specs.Real.{billionths, real, realForm}
 use Rattle.number.proofs.Fields.{within-good}
 use Rattle.number.proofs.Grammar.{Fits}
-use Rattle.number.proofs.GrammarParts.{by-test}
-use Rattle.sheet.specs.RecordA.{
-  Rule,
-  isWord,
-  limits,
-  zoneLimits,
-  groundLimits,
-  heightLimits,
-  inLimits,
-  ranged,
-  judge,
-  stretch,
-  wholeAt,
-  fault,
-}
-use Rattle.sheet.specs.RecordA.Rule.{words, form, free, whole, zones, grounds, stepped, heights}
+use Rattle.field.specs.Field.{fault, inLimits, ranged, isWord, limits, stretch, wholeAt}
+use Rattle.field.specs.declared.Fault.{Fault}
+use Rattle.field.specs.declared.Limits.{Limits}
+use Rattle.field.proofs.Ranges.{HasKind}
+use Rattle.heading.specs.Heading.{zoneLimits, groundLimits, heightLimits}
+use Rattle.heading.proofs.LimitKinds.{zone-kind, ground-kind, height-kind}
 use Rattle.sheet.specs.RulesA.{Clause, clause, spared, integerClauses, realClauses, limitClause, clausesOf}
-use Rattle.sheet.specs.declared.record_a.Fault.{Fault}
-use Rattle.sheet.specs.declared.record_a.Limits.{Limits}
-use Rattle.sheet.proofs.HeaderA.{HasKind, zone-kind, ground-kind, height-kind}
+use Rattle.sheet.specs.RecordA.{Rule, judge}
+use Rattle.sheet.specs.RecordA.Rule.{words, form, free, whole, zones, grounds, stepped, heights}
 
 -- the fault of the first broken rule, and f where all are kept
 abbrev pub firstOf : List ℕ → List Clause → Fault → Fault

@@ -2,24 +2,28 @@
 use mathlib.Core.Bool.{Bool, true, false}
 use mathlib.Core.List.{List, [], _∷_}
 use mathlib.Core.Path.{_≡_, refl, sym, _∙_, ap}
-use Prim.Native.Nat.{ℕ, zero, suc, _*_, _^_, _<_}
+use Prim.Native.Nat.{ℕ, zero, suc, _<_, _*_, _^_}
 use native.Mathlib.Nat.{le-of-suc-le-suc, not-suc-le-zero}
-use native.Mathlib.Omega.{arith}
 use borrow.Author.Tests.{eqb-true, eqb-false, eq-eqb, ne-eqb}
 use lib.Dec.{eqb, lit<}
-use lib.IntN.{ℤ, pos}
 use lib.ListN.{length, getD}
-use Rattle.laws.proofs.Tests.{either}
+use native.Mathlib.Omega.{arith}
+use lib.IntN.{ℤ, pos}
+use Rattle.laws.specs.Sign.{notNegative}
 use Rattle.number.specs.declared.Reading.{Reading}
 use Rattle.number.specs.Integer.{integer}
 use Rattle.number.specs.Real.{real}
-use Rattle.sheet.specs.Lattice.{notNegative}
-use Rattle.sheet.specs.RecordA.{Row, row, fields, judgeRow, firstFault, ranged, inLimits, limits, zoneLimits, groundLimits, heightLimits, headerOf, wholeFault, recordA, stretch, wholeAt}
+use Rattle.field.specs.Field.{ranged, limits, stretch, wholeAt}
+use Rattle.field.specs.declared.Limits.{Limits}
+use Rattle.field.specs.declared.Fault.{Fault}
+use Rattle.field.proofs.Ranges.{ranged-value}
+use Rattle.frame.specs.Frame.{wholeFault}
+use Rattle.heading.specs.Heading.{zoneLimits, groundLimits, heightLimits, headerOf}
+use Rattle.heading.proofs.LimitKinds.{height-kind, ground-kind, zone-kind}
+use Rattle.sheet.specs.RecordA.{Row, judgeRow, firstFault, row, fields, recordA}
 use Rattle.sheet.specs.RecordA.Rule.{words}
 use Rattle.sheet.specs.RecordASteps.{rowAt, headerFrom}
-use Rattle.sheet.specs.declared.record_a.Checked.the-variants.{Sheet, Refused}
-use Rattle.sheet.specs.declared.record_a.Fault.{Fault}
-use Rattle.sheet.specs.declared.record_a.Limits.{Limits}
+use Rattle.sheet.specs.declared.Checked.the-variants.{Sheet, Refused}
 
 -- no fault is found where no row has one
 rows-fine : (block : List ℕ) (rs : List Row) (d : Row) → firstFault block rs .kind ≡ 0 → (i : ℕ) → i < length rs
@@ -37,28 +41,6 @@ rows-fine block (r ∷ rs) d z i h = go i h (rows-fine block rs d) (eqb (judgeRo
 pub row-fine : (block : List ℕ) → firstFault block fields .kind ≡ 0 → (i : ℕ) → i < 41 → judgeRow block (rowAt i) .kind ≡ 0
 unfolding fields
 row-fine block z i h = rows-fine block fields (row 0 0 words) z i h
-
--- a reading that its limits let pass is the reading itself
-ranged-value : (l : Limits) (r : Reading) → (l .kind ≡ 0 → ⊥) → ranged l r .kind ≡ 0 → ranged l r .value ≡ r .value
-ranged-value l r n z = go (eqb (r .kind) 0) refl (inLimits l (r .value)) refl
-  where
-    go : (b : Bool) → eqb (r .kind) 0 ≡ b → (c : Bool) → inLimits l (r .value) ≡ c → ranged l r .value ≡ r .value
-    go true e true f = rw (e, f)
-    go true e false f = absurd (n (rw (e, f) at z))
-    go false e c f = rw e
-
--- limits that go by another field have one kind
-abbrev pub HasKind : ℕ → Limits → Type 0
-HasKind k l = l .kind ≡ k
-
-pub zone-kind : (system : ℕ) → HasKind 9 (zoneLimits system)
-zone-kind system = either (HasKind 9) (eqb system 0) refl (either (HasKind 9) (eqb system 1) refl refl)
-
-pub ground-kind : (system : ℕ) → HasKind 9 (groundLimits system)
-ground-kind system = either (HasKind 9) (eqb system 0) refl (either (HasKind 9) (eqb system 1) refl refl)
-
-pub height-kind : (vertical : ℕ) → HasKind 7 (heightLimits vertical)
-height-kind vertical = either (HasKind 7) (eqb vertical 1) refl refl
 
 module _ (block : List ℕ) (values : List ℤ) (z : firstFault block fields .kind ≡ 0)
     (read : (i : ℕ) → i < 41 → getD values i (pos 0) ≡ judgeRow block (rowAt i) .value) where

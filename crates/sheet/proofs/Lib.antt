@@ -1,9 +1,5 @@
-pub mod Multiples
-pub mod Cases
-pub mod LatticeLaws
-pub mod Stretches
-pub mod Naturals
 pub mod TableA
 pub mod HeaderA
 pub mod FieldRules
 pub mod RulesA
+pub mod SheetObeys

@@ -1,25 +1,27 @@
 -- The verdict on a block is its first broken rule, or its header where it keeps all: carried by an induction over the rows.
 use mathlib.Core.Bool.{Bool, true, false, cond}
 use mathlib.Core.List.{List, [], _∷_}
-use mathlib.Core.Logic.{_↔_, _⊎_, inl, inr}
-use mathlib.Core.Path.{_≡_, refl, sym, _∙_, ap}
+use mathlib.Core.Logic.{_⊎_, inl, inr, _↔_}
+use mathlib.Core.Path.{_≡_, sym, _∙_, refl, ap}
 use Prim.Native.Nat.{ℕ, _+_, _-_}
-use native.Mathlib.Omega.{arith}
-use borrow.Author.Tests.{leb-true, eqb-true, eqb-false, eq-eqb, ne-eqb, not-true}
-use lib.Dec.{leb, eqb}
+use borrow.Author.Tests.{eqb-false, not-true, leb-true, eq-eqb, ne-eqb, eqb-true}
 use lib.ListN.{length}
+use lib.Dec.{leb, eqb}
+use native.Mathlib.Omega.{arith}
 use Rattle.laws.specs.Sign.{_and_}
+use Rattle.laws.proofs.Tests.{clash, by-test, and-first, and-second}
 use Rattle.laws.proofs.Tables.{all}
-use Rattle.laws.proofs.Tests.{clash, and-first, and-second}
-use Rattle.number.proofs.GrammarParts.{by-test}
-use Rattle.sheet.specs.RecordA.{Row, fields, judgeRow, fault, firstFault, headerOf, wholeFault, faultOf, recordA}
-use Rattle.sheet.specs.RulesA.{Clause, clausesOf, fieldClauses, wholeClauses, rulesA, Keeps, FirstBroken}
+use Rattle.field.specs.declared.Fault.{Fault}
+use Rattle.field.specs.Field.{fault}
+use Rattle.frame.specs.Frame.{wholeFault}
+use Rattle.frame.specs.declared.Header.{Header}
+use Rattle.heading.specs.Heading.{headerOf}
+use Rattle.sheet.specs.RulesA.{Clause, Keeps, FirstBroken, rulesA, clausesOf, fieldClauses, wholeClauses}
 use Rattle.sheet.specs.RulesA.Keeps.{none, more}
 use Rattle.sheet.specs.RulesA.FirstBroken.{here, later}
-use Rattle.sheet.specs.declared.record_a.Checked.the-variants.{Sheet, Refused}
-use Rattle.sheet.specs.declared.record_a.Fault.{Fault}
-use Rattle.sheet.specs.declared.record_a.Header.{Header}
-use Rattle.sheet.proofs.FieldRules.{firstOf, first-append, nonzero, Says, suits, rule-says}
+use Rattle.sheet.specs.RecordA.{fields, Row, judgeRow, firstFault, faultOf, recordA}
+use Rattle.sheet.specs.declared.Checked.the-variants.{Sheet, Refused}
+use Rattle.sheet.proofs.FieldRules.{nonzero, firstOf, suits, first-append, Says, rule-says}
 use Rattle.sheet.proofs.HeaderA.{verdict-length}
 
 -- ---- any list of rules

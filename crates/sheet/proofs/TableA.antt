@@ -1,23 +1,24 @@
 -- The table of record A as the code walks it: each row stands inside the block, and a row judged by its numbers is judged by its rule.
 use mathlib.Core.Bool.{Bool, true, false}
+use Prim.Native.Nat.{_+_, _-_, ℕ, _≤_, _<_}
+use lib.Dec.{leb, leb→le, eqb}
 use mathlib.Core.List.{List, _∷_}
 use mathlib.Core.Path.{_≡_, refl, sym, _∙_, ap}
-use Prim.Native.Nat.{ℕ, _+_, _-_, _≤_, _<_}
-use native.Mathlib.Decide.{ℕ-discrete}
-use native.Mathlib.Numerals.{add-one}
 use native.Mathlib.Omega.{arith}
-use borrow.Author.Tests.{eq-eqb, ne-eqb}
-use lib.Dec.{leb, eqb, leb→le}
+use lib.ListN.{take, drop, length, getD, set, length-set}
 use lib.IntN.{ℤ, pos}
-use lib.ListN.{length, take, drop, getD, set, length-set}
+use native.Mathlib.Numerals.{add-one}
 use lib.Seq.{drop-cons, getD-set-same, getD-set-other}
+use native.Mathlib.Decide.{ℕ-discrete}
+use borrow.Author.Tests.{eq-eqb, ne-eqb}
 use Rattle.laws.specs.Sign.{_and_}
 use Rattle.laws.proofs.Tables.{all-at, and-left, and-right}
 use Rattle.number.specs.declared.Reading.{Reading}
-use Rattle.sheet.specs.RecordA.{Rule, Row, row, fields, judge, judgeRow, firstFault, fault, wholeAt, stretch}
+use Rattle.field.specs.Field.{wholeAt, stretch, fault}
+use Rattle.field.specs.declared.Limits.{Limits}
+use Rattle.sheet.specs.RecordA.{Row, row, fields, Rule, judge, judgeRow, firstFault}
 use Rattle.sheet.specs.RecordA.Rule.{words, form, free, whole, zones, grounds, stepped, heights}
 use Rattle.sheet.specs.RecordASteps.{rowAt, codeOf, byOf, fixedOf, limitsBy, judgeBy, Begun}
-use Rattle.sheet.specs.declared.record_a.Limits.{Limits}
 
 -- every row stands inside the 1,024 bytes
 inside : Row → Bool

@@ -1,5 +1,3 @@
-pub mod Lattice
-pub mod Steps
 pub mod RecordA
 pub mod RecordASteps
 pub mod RulesA

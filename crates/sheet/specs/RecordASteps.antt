@@ -1,36 +1,24 @@
 -- How the code walks record A: its table as columns of numbers, one entry for each row. The public promise cites `recordA` alone.
+use Prim.Native.Nat.{ℕ, _<_, _+_}
+use lib.ListN.{getD, length}
 use mathlib.Core.Bool.{cond}
-use mathlib.Core.List.{List}
-use mathlib.Core.Path.{_≡_}
-use Prim.Native.Nat.{ℕ, _+_, _<_}
-use lib.IntN.{ℤ, pos}
 use lib.Dec.{eqb}
-use lib.ListN.{length, getD}
+use mathlib.Core.List.{List}
+use lib.IntN.{pos, ℤ}
+use mathlib.Core.Path.{_≡_}
+use Rattle.laws.specs.Texts.{every}
+use Rattle.laws.specs.Sign.{notNegative}
 use Rattle.number.specs.declared.Reading.{Reading}
 use Rattle.number.specs.Integer.{integer, read, refused}
 use Rattle.number.specs.Real.{real}
-use Rattle.number.specs.Grammar.{every}
-use Rattle.sheet.specs.RecordA.{
-  Rule,
-  Row,
-  row,
-  fields,
-  isWord,
-  ranged,
-  limits,
-  zoneLimits,
-  groundLimits,
-  heightLimits,
-  judgeRow,
-  wholeAt,
-  firstFault,
-}
+use Rattle.field.specs.Field.{limits, isWord, ranged, wholeAt}
+use Rattle.field.specs.declared.Limits.{Limits}
+use Rattle.field.specs.declared.Fault.{Fault}
+use Rattle.frame.specs.declared.Corner.{Corner}
+use Rattle.frame.specs.declared.Header.{Header}
+use Rattle.heading.specs.Heading.{zoneLimits, groundLimits, heightLimits}
+use Rattle.sheet.specs.RecordA.{Row, row, fields, Rule, judgeRow, firstFault}
 use Rattle.sheet.specs.RecordA.Rule.{words, form, free, whole, zones, grounds, stepped, heights}
-use Rattle.sheet.specs.Lattice.{notNegative}
-use Rattle.sheet.specs.declared.record_a.Corner.{Corner}
-use Rattle.sheet.specs.declared.record_a.Fault.{Fault}
-use Rattle.sheet.specs.declared.record_a.Header.{Header}
-use Rattle.sheet.specs.declared.record_a.Limits.{Limits}
 
 -- the row at a place of the table; past its end a row that asks nothing
 abbrev pub rowAt : ℕ → Row

@@ -1,34 +1,20 @@
 -- Document 01, "Record A", as a list of rules that a person can count: where each stands, its kind, and when a block keeps it.
 -- No function goes by this list; that the verdict on a block is its first broken rule is proved in proofs/RulesA.antt.
-use mathlib.Core.Bool.{Bool, true, not}
+use mathlib.Core.Bool.{Bool, not, true}
 use mathlib.Core.List.{List, [], _∷_, _++_}
-use mathlib.Core.Path.{_≡_}
 use Prim.Native.Nat.{ℕ}
-use lib.Dec.{leb, eqb}
+use lib.Dec.{eqb, leb}
+use mathlib.Core.Path.{_≡_}
+use Rattle.laws.specs.Texts.{every}
 use Rattle.laws.specs.Sign.{_and_}
 use Rattle.number.specs.declared.Reading.{Reading}
-use Rattle.number.specs.Grammar.{every}
 use Rattle.number.specs.Integer.{integer}
 use Rattle.number.specs.Real.{real}
-use Rattle.sheet.specs.declared.record_a.Limits.{Limits}
-use Rattle.sheet.specs.RecordA.{
-  Row,
-  Rule,
-  fields,
-  isWord,
-  limits,
-  zoneLimits,
-  groundLimits,
-  heightLimits,
-  inLimits,
-  stretch,
-  wholeAt,
-  headerOf,
-  cornersInOrder,
-  columnsOf,
-  rowsOf,
-  oneTo2048,
-}
+use Rattle.field.specs.declared.Limits.{Limits}
+use Rattle.field.specs.Field.{inLimits, stretch, isWord, limits, wholeAt}
+use Rattle.frame.specs.Frame.{cornersInOrder, columnsOf, rowsOf, oneTo2048}
+use Rattle.heading.specs.Heading.{zoneLimits, groundLimits, heightLimits, headerOf}
+use Rattle.sheet.specs.RecordA.{Rule, Row, fields}
 use Rattle.sheet.specs.RecordA.Rule.{words, form, free, whole, zones, grounds, stepped, heights}
 
 -- a rule: the byte and the kind of its refusal, and whether a block keeps it

@@ -1,10 +1,11 @@
 -- Written fields of a sheet, by computation.
 use mathlib.Core.Path.{_≡_, refl}
-use Prim.Native.Nat.{_*_, _^_}
 use lib.IntN.{pos, negℤ}
+use Prim.Native.Nat.{_*_, _^_}
 use Rattle.laws.specs.Digits.{places}
 use Rattle.laws.specs.Texts.{bytes}
-use Rattle.spell.specs.Spell.{spell, count, integerText, realText}
+use Rattle.numerals.specs.Numerals.{spell, count}
+use Rattle.spell.specs.Spell.{integerText, realText}
 
 written-integer : integerText 6 (negℤ (pos 7)) ≡ bytes "    -7"
 unfolding integerText spell count places

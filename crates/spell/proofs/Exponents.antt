@@ -1,21 +1,22 @@
 -- A power's text read again, and the value that digits and power name together.
-use mathlib.Core.Bool.{Bool, true, cond}
-use mathlib.Core.List.{List, [], _∷_, _++_}
-use mathlib.Core.Path.{_≡_, sym, _∙_, ap, subst}
-use Prim.Native.Nat.{ℕ, _+_, _*_, _-_, _^_, _≤_, _<_}
-use native.Mathlib.Nat.{mul-assoc, mul-one}
-use native.Mathlib.Omega.{arith}
-use borrow.Author.Tests.{ltb-true, ltb-false}
+use mathlib.Core.Bool.{Bool, cond, true}
+use Prim.Native.Nat.{ℕ, _-_, _≤_, _<_, _+_, _*_, _^_}
 use lib.Dec.{ltb}
+use mathlib.Core.List.{List, [], _∷_, _++_}
+use mathlib.Core.Path.{_≡_, subst, sym, _∙_, ap}
+use native.Mathlib.Omega.{arith}
+use native.Mathlib.Nat.{mul-assoc, mul-one}
+use borrow.Author.Tests.{ltb-true, ltb-false}
 use lib.Pow.{pow-add}
+use Rattle.laws.proofs.Tests.{by-test}
+use Rattle.numerals.specs.Numerals.{spell}
+use Rattle.numerals.proofs.Spelling.{spell-length}
+use Rattle.numerals.proofs.Spelled.{spell-digits, spell-number}
 use Rattle.number.specs.Bytes.{isLetter}
 use Rattle.number.specs.Grammar.{Sign, Exponent, raised, sunk}
 use Rattle.number.specs.Grammar.Exponent.{lettered}
 use Rattle.number.specs.Grammar.Sign.{plus, minus}
-use Rattle.number.proofs.GrammarParts.{by-test}
-use Rattle.spell.specs.Spell.{spell, powerText}
-use Rattle.spell.proofs.Pieces.{spell-length}
-use Rattle.spell.proofs.Spelled.{spell-digits, spell-number}
+use Rattle.spell.specs.Spell.{powerText}
 
 -- the power of a number that has c digits in billionths: below zero where it has less than 9
 abbrev pub lowered : ℕ → Bool

@@ -1,31 +1,22 @@
 -- "no leading zero" and "the first not 0": a number above zero has a first digit above 0, in integers and in reals.
-use mathlib.Core.Path.{_≡_, _∙_, ap}
-use Prim.Native.Nat.{ℕ, _+_, _*_, _-_, _/_, _^_, _≤_, _<_}
-use native.Mathlib.Nat.{le-div-iff-mul-le, mul-le-mul-right}
+use Prim.Native.Nat.{ℕ, _^_, _<_, _+_, _*_, _-_, _≤_}
 use native.Mathlib.Omega.{arith}
+use lib.ListN.{getD}
+use mathlib.Core.Path.{_≡_, _∙_, ap}
+use native.Mathlib.Nat.{le-div-iff-mul-le, mul-le-mul-right}
 use borrow.Author.Tests.{leb-true, leb-false}
 use lib.Dec.{leb}
-use lib.ListN.{getD}
 use lib.Pow.{pow-add}
-use Rattle.laws.proofs.Shorts.{places-below}
 use Rattle.laws.proofs.Tens.{ten-pos}
-use Rattle.number.proofs.GrammarParts.{by-test}
-use Rattle.spell.specs.Spell.{spell, count, wholeDigits, sizeDigits, leading}
-use Rattle.spell.proofs.Counts.{count-some, count-least}
+use Rattle.laws.proofs.Tests.{by-test}
+use Rattle.numerals.specs.Numerals.{numeral, spell}
+use Rattle.numerals.proofs.Numerals.{no-zero-first, first-above, count-below}
+use Rattle.numerals.proofs.Counts.{count-least}
+use Rattle.spell.specs.Spell.{leading, sizeDigits}
 use Rattle.spell.proofs.Leading.{leading-filled, leading-cut}
-use Rattle.spell.proofs.Pieces.{spell-first}
 
--- the first of k digits, where the number reaches the last power of ten below them; 48 is the digit 0
-first-above : (k n : ℕ) → 0 < k → 10 ^ (k - 1) ≤ n → 48 < getD (spell k n) 0 0
-first-above k n p h =
-    let q : 1 ≤ n / 10 ^ (k - 1) = le-div-iff-mul-le (ten-pos (k - 1)) .1 (omega arith) in
-    rw (spell-first k n p) (omega arith)
-
-count-below : (none k n : ℕ) → 0 < n → n < 10 ^ k → 10 ^ (count none k n - 1) ≤ n
-count-below none k n p h = rw (count-some none k n (λ e. omega arith)) (places-below k n p h)
-
-pub whole-first : (n : ℕ) → 0 < n → n < 10 ^ 19 → 48 < getD (spell (wholeDigits n) n) 0 0
-whole-first n p h = first-above (wholeDigits n) n (count-least 1 19 n (omega arith) h) (count-below 1 19 n p h)
+pub whole-first : (n : ℕ) → 0 < n → n < 10 ^ 20 → 48 < getD (numeral n) 0 0
+whole-first n p h = no-zero-first 20 n (omega arith) h p
 
 leading-above : (p c n : ℕ) → 0 < p → 0 < c → 10 ^ (c - 1) ≤ n → 10 ^ (p - 1) ≤ leading p c n
 leading-above p c n hp hc h = by-test (leb c p) (λ t. filled (leb-true c p t)) (λ t. cut (leb-false c p t))

@@ -1,25 +1,27 @@
 -- What fits its field: the tests taken apart, the lengths that follow, and the values that always fit.
 use mathlib.Core.Bool.{true}
-use mathlib.Core.List.{List}
 use mathlib.Core.Path.{_≡_, sym}
-use Prim.Native.Nat.{ℕ, _+_, _*_, _/_, _%_, _^_, _≤_, _<_}
-use native.Mathlib.Nat.{div-add-mod', div-lt-iff-lt-mul}
-use native.Mathlib.Omega.{arith}
-use borrow.Author.Tests.{ltb-true, leb-true, lt-ltb, le-leb}
-use lib.Dec.{leb, ltb}
-use lib.IntN.{ℤ, pos, natAbs}
+use Prim.Native.Nat.{ℕ, _≤_, _+_, _^_, _<_, _*_, _/_, _%_}
+use borrow.Author.Tests.{leb-true, ltb-true, lt-ltb, le-leb}
+use lib.IntN.{ℤ, natAbs, pos}
 use lib.ListN.{length}
+use native.Mathlib.Omega.{arith}
+use lib.Dec.{leb, ltb}
+use mathlib.Core.List.{List}
+use native.Mathlib.Nat.{div-add-mod', div-lt-iff-lt-mul}
 use Rattle.laws.specs.Digits.{short}
 use Rattle.laws.specs.Sign.{_and_}
+use Rattle.laws.proofs.Tests.{and-first, and-second, and-both}
 use Rattle.laws.proofs.Shorts.{few-short}
 use Rattle.laws.proofs.Tens.{ten-pos}
-use Rattle.laws.proofs.Tests.{and-first, and-second, and-both}
+use Rattle.numerals.specs.Numerals.{minus}
+use Rattle.numerals.proofs.Numerals.{minus-short}
+use Rattle.numerals.proofs.Counts.{count-small}
 use Rattle.number.specs.Real.{real}
 use Rattle.number.proofs.Limits.{real-limits}
-use Rattle.spell.specs.Spell.{minus, whole, integerText, integerFits, decimal, realText, realFits}
-use Rattle.spell.proofs.Counts.{count-small}
+use Rattle.spell.specs.Spell.{whole, integerFits, integerText, decimal, realText, realFits}
 use Rattle.spell.proofs.Pieces.{justified-length}
-use Rattle.spell.proofs.Texts.{not-below, minus-short, whole-length, decimal-length}
+use Rattle.spell.proofs.Texts.{decimal-length, not-below, whole-length}
 
 pub integer-room : (width : ℕ) (z : ℤ) → integerFits width z ≡ true → length (whole z) ≤ width
 unfolding integerFits
@@ -101,9 +103,9 @@ pub thousands-fit : (z : ℤ) → natAbs z < 10 ^ 18 → natAbs z % 10 ^ 3 ≡ 0
 thousands-fit z modest rest = digits-fit 15 24 3 z (omega arith) modest rest (omega (arith, minus-short z))
 
 -- an integer of so many digits fits a field that has a place more, for a minus
-pub integer-fits : (digits width : ℕ) (z : ℤ) → 1 ≤ digits → digits ≤ 19 → natAbs z < 10 ^ digits → digits + 1 ≤ width
+pub integer-fits : (digits width : ℕ) (z : ℤ) → 1 ≤ digits → digits ≤ 20 → natAbs z < 10 ^ digits → digits + 1 ≤ width
     → integerFits width z ≡ true
 unfolding integerFits
 integer-fits digits width z some most below room =
     le-leb (length (whole z)) width
-    (omega (arith, whole-length z, minus-short z, count-small 1 19 (natAbs z) digits some most below))
+    (omega (arith, whole-length z, minus-short z, count-small 1 20 (natAbs z) digits some most below))

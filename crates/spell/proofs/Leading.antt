@@ -1,28 +1,18 @@
 -- The leading digits of a number fit their places, and with a power of ten behind them are the number: by cases, cut or filled up.
 use mathlib.Core.Bool.{true}
-use mathlib.Core.Path.{_≡_, refl, sym, _∙_, ap}
-use Prim.Native.Nat.{ℕ, _+_, _*_, _-_, _/_, _%_, _^_, _≤_, _<_}
-use native.Mathlib.Nat.{div-add-mod', div-lt-iff-lt-mul, div-one, mod-one, mul-one, mul-assoc, mul-comm, mul-lt-mul-of-pos-right, zero-mod}
+use mathlib.Core.Path.{_≡_, sym, _∙_, ap}
+use Prim.Native.Nat.{ℕ, _-_, _%_, _^_, _+_, _*_, _≤_, _/_, _<_}
+use native.Mathlib.Nat.{zero-mod, div-add-mod', div-lt-iff-lt-mul, div-one, mul-one, mul-assoc, mul-comm, mul-lt-mul-of-pos-right}
+use borrow.Author.Tests.{eqb-true, eqb-false, leb-true, leb-false}
+use lib.Dec.{eqb, leb}
 use native.Mathlib.Omega.{arith}
-use borrow.Author.Tests.{eq-eqb, eqb-true, eqb-false, leb-true, leb-false}
-use lib.Dec.{leb, eqb}
 use lib.Pow.{pow-add}
 use Rattle.laws.specs.Digits.{places, short}
+use Rattle.laws.proofs.Tests.{by-test}
 use Rattle.laws.proofs.Tens.{ten-pos}
-use Rattle.number.proofs.GrammarParts.{by-test}
-use Rattle.spell.specs.Spell.{leading, count}
-use Rattle.spell.proofs.Counts.{count-some}
-
--- all digits are among the first p, or the test asks
-pub short-all : (k p n : ℕ) → places k n ≤ p → short k p n ≡ true
-unfolding short
-short-all k p n h =
-    let e : places k n - p ≡ 0 = omega arith in
-    rw e (eq-eqb (n % 1) 0 (mod-one n))
-
-pub short-test : (k p n : ℕ) → short k p n ≡ eqb (n % 10 ^ (places k n - p)) 0
-unfolding short
-short-test k p n = refl
+use Rattle.numerals.specs.Numerals.{count}
+use Rattle.numerals.proofs.Counts.{count-some, short-test}
+use Rattle.spell.specs.Spell.{leading}
 
 -- what a short number leaves past its first p digits, zero with as many digits as are named
 pub short-rest : (none k p n : ℕ) → short k p n ≡ true → n % 10 ^ (count none k n - p) ≡ 0

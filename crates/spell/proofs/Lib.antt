@@ -1,4 +1,3 @@
-pub mod Counts
 pub mod Leading
 pub mod FirstDigits
 pub mod Pieces

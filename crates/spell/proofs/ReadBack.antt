@@ -1,56 +1,58 @@
 -- What is written reads back as what was written: each text has the form that the grammar names, and "complete" says the rest.
 use mathlib.Core.Bool.{true}
-use mathlib.Core.List.{List, [], _∷_, _++_, append-nil}
-use mathlib.Core.Path.{_≡_, refl, sym, _∙_, ap}
-use Prim.Native.Nat.{ℕ, _+_, _*_, _-_, _^_, _≤_, _<_}
-use native.Mathlib.Nat.{mul-lt-mul-of-pos-right}
+use mathlib.Core.Path.{_≡_, _∙_, refl, sym, ap}
+use Prim.Native.Nat.{ℕ, _-_, _^_, _≤_, _<_, _+_, _*_}
 use native.Mathlib.Omega.{arith}
 use borrow.Author.Tests.{ltb-true, ltb-false}
 use lib.Dec.{ltb}
-use lib.IntN.{ℤ, pos, natAbs}
+use lib.IntN.{ℤ, natAbs, pos}
 use lib.ListN.{length, replicate}
 use lib.Signed.{ltZ}
+use mathlib.Core.List.{List, [], _∷_, _++_, append-nil}
+use native.Mathlib.Nat.{mul-lt-mul-of-pos-right}
+use Rattle.laws.proofs.Tests.{by-test}
 use Rattle.laws.proofs.Shorts.{short-few}
 use Rattle.laws.proofs.Tens.{ten-pos, ten-up}
-use Rattle.number.specs.Bytes.{isLetter}
+use Rattle.numerals.specs.Numerals.{spell, minus}
+use Rattle.numerals.proofs.Counts.{places-stop, count-some, count-above, count-least, count-most}
+use Rattle.numerals.proofs.Spelling.{spell-length}
+use Rattle.numerals.proofs.Spelled.{spell-digits, spell-number}
 use Rattle.number.specs.Grammar.{IntegerText, RealText, Large, Billionths, sunk}
-use Rattle.number.specs.Grammar.Fraction.{pointed}
 use Rattle.number.specs.Integer.{integer, read}
+use Rattle.number.specs.Bytes.{isLetter}
+use Rattle.number.specs.Grammar.Fraction.{pointed}
 use Rattle.number.specs.Real.{real}
 use Rattle.number.proofs.Grammar.{integer-means, real-means}
-use Rattle.number.proofs.GrammarParts.{by-test}
-use Rattle.spell.specs.Spell.{spell, minus, whole, wholeDigits, sizeDigits, leading, decimal, powerText, integerText, integerFits, realText, realFits}
-use Rattle.spell.proofs.Counts.{count-above, count-most, count-least, places-stop, count-some}
-use Rattle.spell.proofs.Exponents.{lowered, power, exponent-is, fraction-is}
+use Rattle.spell.specs.Spell.{wholeDigits, integerFits, whole, integerText, sizeDigits, leading, decimal, powerText, realText, realFits}
 use Rattle.spell.proofs.Fits.{integer-room, integer-length, RealFits, real-fits, real-length}
-use Rattle.spell.proofs.Leading.{leading-below, leading-is, short-rest}
-use Rattle.spell.proofs.Pieces.{spell-length}
-use Rattle.spell.proofs.Spelled.{spell-digits, spell-number, blanks-blank, minus-sign, sign-size}
 use Rattle.spell.proofs.Texts.{whole-length}
+use Rattle.spell.proofs.Spelled.{blanks-blank, minus-sign, sign-size}
+use Rattle.spell.proofs.Exponents.{lowered, power, exponent-is, fraction-is}
+use Rattle.spell.proofs.Leading.{leading-below, leading-is, short-rest}
 
 -- a number whose text fits a short field has no more digits than are counted
-size-small : (width : ℕ) (z : ℤ) → width ≤ 6 → integerFits width z ≡ true → natAbs z < 10 ^ 19
+size-small : (width : ℕ) (z : ℤ) → width ≤ 6 → integerFits width z ≡ true → natAbs z < 10 ^ 20
 size-small width z h f =
-    by-test (ltb (natAbs z) (10 ^ 19)) (λ e. ltb-true (natAbs z) (10 ^ 19) e)
-    (λ e. absurd (large (ltb-false (natAbs z) (10 ^ 19) e)))
+    by-test (ltb (natAbs z) (10 ^ 20)) (λ e. ltb-true (natAbs z) (10 ^ 20) e)
+    (λ e. absurd (large (ltb-false (natAbs z) (10 ^ 20) e)))
   where
-    large : 10 ^ 19 ≤ natAbs z → ⊥
+    large : 10 ^ 20 ≤ natAbs z → ⊥
     large l =
-        let g : 10 ^ (19 - 1) ≤ natAbs z = omega arith in
-        let k : wholeDigits (natAbs z) ≡ 19 =
-        count-some 1 19 (natAbs z) (λ e. omega arith) ∙ places-stop 19 (natAbs z) (omega arith) g
+        let g : 10 ^ (20 - 1) ≤ natAbs z = omega arith in
+        let k : wholeDigits (natAbs z) ≡ 20 =
+        count-some 1 20 (natAbs z) (λ e. omega arith) ∙ places-stop 20 (natAbs z) (omega arith) g
         in
         omega (arith, integer-room width z f, whole-length z)
 
 module _ (width : ℕ) (z : ℤ) (h : width ≤ 6) (f : integerFits width z ≡ true) where
   below : natAbs z < 10 ^ wholeDigits (natAbs z)
-  below = count-above 1 19 (natAbs z) (size-small width z h f)
+  below = count-above 1 20 (natAbs z) (size-small width z h f)
 
   integer-form : IntegerText (integerText width z) (ltZ z (pos 0)) (natAbs z)
   unfolding integerText
   integer-form =
       let k = wholeDigits (natAbs z) in
-      let l : 1 ≤ k = count-least 1 19 (natAbs z) (omega arith) (size-small width z h f) in
+      let l : 1 ≤ k = count-least 1 20 (natAbs z) (omega arith) (size-small width z h f) in
       record {
         blanks = replicate (width - length (whole z)) 32;
         sign = minus z;

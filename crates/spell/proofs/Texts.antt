@@ -1,27 +1,25 @@
 -- The texts of numbers by their lengths: each is a sum over its pieces.
-use mathlib.Core.Bool.{true, false}
-use mathlib.Core.List.{_∷_, _++_}
+use mathlib.Core.Bool.{false, true}
 use mathlib.Core.Path.{_≡_, _∙_, ap}
-use Prim.Native.Nat.{ℕ, _+_, _-_, _^_, _≤_, _<_}
+use Prim.Native.Nat.{ℕ, _+_, _-_, _^_, _<_}
 use native.Mathlib.Omega.{arith}
-use borrow.Author.Tests.{lt-ltb, le-ltb}
-use lib.Dec.{leb, ltb}
-use lib.IntN.{ℤ, pos, negsuc, natAbs}
-use lib.ListN.{length, length-append}
+use borrow.Author.Tests.{le-ltb, lt-ltb}
+use lib.IntN.{pos, ℤ, natAbs, negsuc}
 use lib.Signed.{ltZ}
+use lib.ListN.{length, length-append}
+use lib.Dec.{ltb, leb}
+use mathlib.Core.List.{_∷_, _++_}
 use mir.Syntax.{w64}
 use mir.Val.{SFits}
 use Rattle.laws.specs.Digits.{short}
-use Rattle.number.proofs.GrammarParts.{by-test}
-use Rattle.spell.specs.Spell.{spell, minus, whole, wholeDigits, sizeDigits, leading, powerText, decimal, realFits}
-use Rattle.spell.proofs.Pieces.{spell-length}
+use Rattle.laws.proofs.Tests.{by-test}
+use Rattle.numerals.specs.Numerals.{spell, minus}
+use Rattle.numerals.proofs.Spelling.{spell-length}
+use Rattle.spell.specs.Spell.{whole, wholeDigits, powerText, sizeDigits, leading, decimal, realFits}
 
 -- no minus before a number that is not below zero
 pub not-below : (n : ℕ) → ltZ (pos n) (pos 0) ≡ false
 not-below n = le-ltb n 0 (omega arith)
-
-pub minus-short : (z : ℤ) → length (minus z) ≤ 1
-minus-short z = by-test (ltZ z (pos 0)) (λ e. rw e (omega arith)) (λ e. rw e (omega arith))
 
 pub whole-length : (z : ℤ) → length (whole z) ≡ length (minus z) + wholeDigits (natAbs z)
 whole-length z =

@@ -1,37 +1,25 @@
 -- Document 01, "Writing": the texts of an integer and of a real in their fields.
-use mathlib.Core.Bool.{Bool, cond}
-use mathlib.Core.List.{List, [], _∷_, _++_}
-use Prim.Native.Nat.{ℕ, zero, suc, _+_, _*_, _-_, _/_, _%_, _^_}
-use lib.Dec.{leb, ltb, eqb}
-use lib.IntN.{ℤ, pos, natAbs}
+use mathlib.Core.List.{List, _++_, _∷_}
+use Prim.Native.Nat.{ℕ, _-_, _*_, _/_, _^_, _+_}
 use lib.ListN.{length, replicate}
-use lib.Signed.{ltZ}
+use lib.IntN.{ℤ, natAbs}
+use mathlib.Core.Bool.{Bool, cond}
+use lib.Dec.{leb, ltb}
 use Rattle.laws.specs.Sign.{_and_}
-use Rattle.laws.specs.Digits.{places, short}
-
--- k decimal digits of n, from the left
-unfoldable pub spell : ℕ → ℕ → List ℕ
-spell zero n = []
-spell (suc k) n = (48 + n / 10 ^ k) ∷ spell k (n % 10 ^ k)
+use Rattle.laws.specs.Digits.{short}
+use Rattle.numerals.specs.Numerals.{count, numeral, minus, spell}
 
 -- "right-justified .. blanks before"
 abbrev pub justified : ℕ → List ℕ → List ℕ
 justified width text = replicate (width - length text) 32 ++ text
 
--- ".. minus if negative"
-abbrev pub minus : ℤ → List ℕ
-minus z = cond (ltZ z (pos 0)) (45 ∷ []) []
-
--- how many digits n has, at most k; zero, which has none, is given `none` of them
-unfoldable pub count : ℕ → ℕ → ℕ → ℕ
-count none k n = cond (eqb n 0) none (places k n)
-
--- "no leading zero": the digits that the number has, and for zero the single digit 0. No i64 has more than 19.
+-- "no leading zero": the digits that the number has, and for zero the single digit 0
 abbrev pub wholeDigits : ℕ → ℕ
-wholeDigits n = count 1 19 n
+wholeDigits n = count 1 20 n
 
+-- ".. minus if negative"
 abbrev pub whole : ℤ → List ℕ
-whole z = minus z ++ spell (wholeDigits (natAbs z)) (natAbs z)
+whole z = minus z ++ numeral (natAbs z)
 
 -- "Integers: right-justified .."
 unfoldable pub integerText : ℕ → ℤ → List ℕ

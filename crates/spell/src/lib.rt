@@ -1,14 +1,14 @@
 // Number fields, written exactly: document 01, "Writing". A text is built in a scratch array, then placed at the field's right end.
 ghost use mathlib.Core.Bool.{cond};
-ghost use mathlib.Core.List.{[], _∷_, _++_};
+ghost use mathlib.Core.List.{_∷_, _++_};
 ghost use mathlib.Core.Path.{_≡_};
 ghost use Prim.Native.Nat.{_+_, _≤_, _<_, _^_};
 ghost use lib.Dec.{leb};
 ghost use lib.IntN.{natAbs};
 ghost use lib.ListN.{length, getD, replicate};
-ghost use Rattle.laws.specs.Digits.{places, short};
-ghost use Rattle.spell.specs.Spell.{spell, justified, minus, count, whole, leading, powerText, decimal, integerText, integerFits, realText, realFits};
-ghost use Rattle.spell.specs.Pieces.{Puts};
+ghost use Rattle.numerals.specs.Numerals.{spell};
+ghost use Rattle.numerals.specs.Pieces.{Puts};
+ghost use Rattle.spell.specs.Spell.{justified, whole, leading, powerText, decimal, integerText, integerFits, realText, realFits};
 
 // Magnitudes of 10 ^ 9 and more are written by no real: here in billionths.
 const LIMIT: u64 = 1000000000000000000;
@@ -26,67 +26,6 @@ const ZERO: u8 = 48;
 const LETTER_D: u8 = 68;
 
 const LETTER_E: u8 = 69;
-
-// How many digits a number has, at most k.
-fn places_of(k: usize, n: u64) -> usize
-    requires { ⌜ k ≤ 19 ⌝ }
-    ensures { λ r. ⌜ r ≡ places k n ⌝ }
-{
-    let mut i = k;
-    while 0 < i {
-        if number::ten_to(i - 1) <= n {
-            return i;
-        }
-        i -= 1;
-    }
-    0
-}
-
-// The same, with so many digits as are named for zero.
-fn count_of(none: usize, k: usize, n: u64) -> usize
-    requires { ⌜ k ≤ 19 ⌝ }
-    ensures { λ r. ⌜ r ≡ count none k n ⌝ }
-{
-    if n == 0 {
-        return none;
-    }
-    places_of(k, n)
-}
-
-fn put_byte(text: &mut [u8], at: usize, byte: u8) -> usize
-    requires { ⌜ at < length (now text) ⌝ }
-    ensures { λ r. ⌜ Puts (now (text .entry)) at (byte ∷ []) (now (text .exit)) r ⌝ }
-{
-    text[at] = byte;
-    at + 1
-}
-
-fn put_minus(text: &mut [u8], value: i64) -> usize
-    requires { ⌜ 0 < length (now text) ⌝ }
-    ensures { λ r. ⌜ Puts (now (text .entry)) 0 (minus value) (now (text .exit)) r ⌝ }
-{
-    if value < 0 {
-        return put_byte(text, 0, MINUS);
-    }
-    0
-}
-
-fn put_digits(text: &mut [u8], at: usize, k: usize, n: u64) -> usize
-    requires { ⌜ (at + k ≤ length (now text)) × ((k ≤ 19) × (n < 10 ^ k)) ⌝ }
-    ensures { λ r. ⌜ Puts (now (text .entry)) at (spell k n) (now (text .exit)) r ⌝ }
-{
-    let mut end = at;
-    let mut left = k;
-    let mut rest = n;
-    while 0 < left {
-        left -= 1;
-        let power = number::ten_to(left);
-        text[end] = ZERO + (rest / power) as u8;
-        rest = rest % power;
-        end += 1;
-    }
-    end
-}
 
 // The byte at a place of a field: a blank in the gap before the text, then the text's own.
 fn byte_at(text: &[u8], gap: usize, i: usize) -> u8
@@ -118,12 +57,11 @@ fn place(text: &[u8], field: &mut [u8]) -> bool
 }
 
 fn put_whole(text: &mut [u8], value: i64) -> usize
-    requires { ⌜ 20 ≤ length (now text) ⌝ }
+    requires { ⌜ 21 ≤ length (now text) ⌝ }
     ensures { λ r. ⌜ Puts (now (text .entry)) 0 (whole value) (now (text .exit)) r ⌝ }
 {
-    let size = number::size_of(value);
-    let first = put_minus(text, value);
-    put_digits(text, first, count_of(1, 19, size), size)
+    let first = numerals::put_minus(text, 0, value);
+    numerals::put_number(text, first, number::size_of(value))
 }
 
 // "Integers: right-justified .." False and the field as it was, where the number is too long for it.
@@ -134,17 +72,6 @@ pub fn write_integer(value: i64, field: &mut [u8]) -> bool
     let mut text = [0u8; 24];
     let end = put_whole(&mut text, value);
     place(&text[0..end], field)
-}
-
-// Whether the digits past the first few are all zero.
-fn is_short(digits: usize, size: u64) -> bool
-    ensures { λ r. ⌜ r ≡ short 18 digits size ⌝ }
-{
-    let count = places_of(18, size);
-    if count <= digits {
-        return true;
-    }
-    size % number::ten_to(count - digits) == 0
 }
 
 // The first few of a size's digits, or all of them with zeros behind.
@@ -163,9 +90,9 @@ fn put_fraction(text: &mut [u8], at: usize, digits: usize, count: usize, size: u
     requires { ⌜ (at + (digits + 2) ≤ length (now text)) × ((digits ≤ 15) × ((count ≤ 18) × (size < 10 ^ count))) ⌝ }
     ensures { λ r. ⌜ Puts (now (text .entry)) at (48 ∷ 46 ∷ spell digits (leading digits count size)) (now (text .exit)) r ⌝ }
 {
-    let point = put_byte(text, at, ZERO);
-    let first = put_byte(text, point, POINT);
-    put_digits(text, first, digits, leading_of(digits, count, size))
+    let point = numerals::put_byte(text, at, ZERO);
+    let first = numerals::put_byte(text, point, POINT);
+    numerals::put_digits(text, first, digits, leading_of(digits, count, size))
 }
 
 // "then D (E in the spacings), sign, two digits"
@@ -173,13 +100,13 @@ fn put_power(text: &mut [u8], at: usize, letter: u8, count: usize) -> usize
     requires { ⌜ (at + 4 ≤ length (now text)) × (count ≤ 18) ⌝ }
     ensures { λ r. ⌜ Puts (now (text .entry)) at (powerText letter count) (now (text .exit)) r ⌝ }
 {
-    let sign = put_byte(text, at, letter);
+    let sign = numerals::put_byte(text, at, letter);
     if count < 9 {
-        let low = put_byte(text, sign, MINUS);
-        return put_digits(text, low, 2, (9 - count) as u64);
+        let low = numerals::put_byte(text, sign, MINUS);
+        return numerals::put_digits(text, low, 2, (9 - count) as u64);
     }
-    let high = put_byte(text, sign, PLUS);
-    put_digits(text, high, 2, (count - 9) as u64)
+    let high = numerals::put_byte(text, sign, PLUS);
+    numerals::put_digits(text, high, 2, (count - 9) as u64)
 }
 
 // "optional minus, "0.", 15 digits .."
@@ -188,8 +115,8 @@ fn put_decimal(text: &mut [u8], digits: usize, letter: u8, value: i64) -> usize
     ensures { λ r. ⌜ Puts (now (text .entry)) 0 (decimal digits letter value) (now (text .exit)) r ⌝ }
 {
     let size = number::size_of(value);
-    let count = count_of(9, 18, size);
-    let first = put_minus(text, value);
+    let count = numerals::count_of(9, 18, size);
+    let first = numerals::put_minus(text, 0, value);
     let power = put_fraction(text, first, digits, count, size);
     put_power(text, power, letter, count)
 }
@@ -204,7 +131,7 @@ fn write_decimal(value: i64, digits: usize, letter: u8, field: &mut [u8]) -> boo
     if LIMIT <= size {
         return false;
     }
-    if !is_short(digits, size) {
+    if !numerals::is_short(digits, size) {
         return false;
     }
     let mut text = [0u8; 24];

@@ -1,26 +1,25 @@
 -- Every block that is sent is 1,024 bytes: block 0, and each of a column's profile, which stand from the column's start on.
-use mathlib.Core.Bool.{true, false, cond}
+use mathlib.Core.Bool.{false, cond, true}
 use mathlib.Core.List.{List}
-use mathlib.Core.Path.{_≡_, refl, sym, _∙_, ap}
-use Prim.Native.Nat.{ℕ, _+_, _-_, _≤_, _<_}
+use mathlib.Core.Path.{_≡_, refl, _∙_, ap, sym}
+use Prim.Native.Nat.{ℕ, _+_, _-_, _<_, _≤_}
 use native.Mathlib.Omega.{arith}
-use borrow.Author.Tests.{eqb-true, eqb-false, ne-eqb}
+use borrow.Author.Tests.{ne-eqb, eqb-true, eqb-false}
 use lib.Dec.{eqb}
 use lib.IntN.{ℤ}
 use lib.ListN.{length}
-use Rattle.number.proofs.GrammarParts.{by-test}
-use Rattle.sheet.specs.RecordA.{columnsOf, rowsOf}
-use Rattle.sheet.specs.declared.record_a.Header.{Header}
-use Rattle.session.specs.Session.{headerObeys}
-use Rattle.session.proofs.Facts.{Heading, header-facts}
-use Rattle.load.specs.Posts.{blocksFor}
-use Rattle.load.specs.Deliver.{cellsOf, zOf}
-use Rattle.meaning.specs.Rules.{leastStated, greatestStated}
+use Rattle.laws.proofs.Tests.{by-test}
+use Rattle.frame.specs.Frame.{columnsOf, rowsOf, cellsOf, zOf}
+use Rattle.frame.specs.declared.Header.{Header}
+use Rattle.heading.specs.Heading.{headerObeys}
+use Rattle.heading.proofs.HeadingFacts.{Heading, header-facts}
+use Rattle.ground.specs.Posts.{blocksFor}
+use Rattle.ground.specs.Extremes.{leastStated, greatestStated}
 use Rattle.spell.specs.Spell.{realFits}
-use Rattle.written.specs.Cells.{sendable, columnCells, firstRow, cellsSent, startSent, columnWith}
-use Rattle.written.specs.Blocks.{sheetCells, blockZero, profileBlock, blockSent}
+use Rattle.written.specs.Cells.{cellsSent, startSent, columnWith, sendable, columnCells, firstRow}
+use Rattle.written.specs.Blocks.{blockZero, profileBlock, blockSent, sheetCells}
+use Rattle.written.proofs.SheetSent.{start-next, start-from, column-with, column-length, column-sendable, sheet-length, with-below}
 use Rattle.written.proofs.ColumnsSent.{some-cells, cells-room, sendable-sent}
-use Rattle.written.proofs.SheetSent.{column-length, column-sendable, sheet-length, start-next, start-from, column-with, with-below}
 use Rattle.written.proofs.PlacesSent.{x-fits, y-sent-fits, least-fits, greatest-fits}
 use Rattle.written.proofs.PiecesSent.{zero-length}
 use Rattle.written.proofs.PostsSent.{AllSent, profile-length}

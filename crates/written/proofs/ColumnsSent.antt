@@ -2,20 +2,19 @@
 use mathlib.Core.Bool.{true, false, cond}
 use mathlib.Core.List.{List, [], _∷_}
 use mathlib.Core.Path.{_≡_, refl, sym, _∙_, ap}
-use Prim.Native.Nat.{ℕ, zero, suc, _+_, _-_, _≤_, _<_}
+use lib.IntN.{ℤ}
+use Prim.Native.Nat.{ℕ, zero, suc, _≤_, _<_, _+_, _-_}
+use lib.ListN.{getD, length, drop, length-drop}
 use native.Mathlib.Omega.{arith}
 use borrow.Author.Tests.{leb-true, leb-false, le-leb}
 use lib.Dec.{leb}
-use lib.IntN.{ℤ}
-use lib.ListN.{length, drop, getD, length-drop}
 use lib.Seq.{getD-drop}
-use Rattle.laws.specs.Sign.{_and_}
-use Rattle.laws.proofs.Tests.{clash, and-first, and-second}
-use Rattle.number.proofs.GrammarParts.{by-test}
-use Rattle.load.specs.Posts.{void, sameZ}
-use Rattle.load.proofs.Heights.{sameZ-is}
-use Rattle.meaning.specs.Rules.{filledOnly}
-use Rattle.written.specs.Cells.{canSend, sendable, voidsBefore, isNone, upToLast, firstRow, profileCells}
+use Rattle.laws.specs.Sign.{_and_, sameZ}
+use Rattle.laws.proofs.Tests.{clash, and-first, and-second, by-test}
+use Rattle.laws.proofs.SameNumbers.{sameZ-is}
+use Rattle.ground.specs.Posts.{void}
+use Rattle.ground.specs.Extremes.{filledOnly}
+use Rattle.written.specs.Cells.{isNone, upToLast, voidsBefore, firstRow, profileCells, canSend, sendable}
 
 -- ---- up to the last filled cell, and the voids before the first
 

@@ -1,15 +1,15 @@
 -- The head of a profile as it is sent: nine fields, one behind the other, 144 bytes where their numbers fit.
-use mathlib.Core.Bool.{true}
 use mathlib.Core.List.{List, [], _∷_, _++_}
+use Prim.Native.Nat.{ℕ, _+_, suc, _≤_}
+use lib.ListN.{length, length-append, take}
 use mathlib.Core.Path.{_≡_, _∙_}
-use Prim.Native.Nat.{ℕ, suc, _+_, _≤_}
 use native.Mathlib.Omega.{arith}
+use mathlib.Core.Bool.{true}
 use lib.IntN.{ℤ, pos}
-use lib.ListN.{length, take, length-append}
-use Rattle.spell.specs.Spell.{integerText, realText, realFits}
+use Rattle.frame.specs.declared.Header.{Header}
+use Rattle.ground.specs.Extremes.{leastStated, greatestStated}
+use Rattle.spell.specs.Spell.{realFits, integerText, realText}
 use Rattle.spell.proofs.Fits.{integer-length, real-length}
-use Rattle.sheet.specs.declared.record_a.Header.{Header}
-use Rattle.meaning.specs.Rules.{leastStated, greatestStated}
 use Rattle.written.specs.Cells.{cellsSent}
 use Rattle.written.specs.Blocks.{xSent, ySent, headText}
 use Rattle.written.proofs.PiecesSent.{small-fits, zero-fits}

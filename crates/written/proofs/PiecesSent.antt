@@ -1,29 +1,29 @@
 -- Block 0 as it is sent: every number of a good header fits its field, so each piece fills its place, and the block is 1,024 bytes.
 use mathlib.Core.Bool.{Bool, true, false, cond}
+use Prim.Native.Nat.{_+_, _-_, ℕ, zero, suc, _≤_, _*_, _^_}
+use lib.Dec.{leb, eqb, ltb}
+use lib.IntN.{pos, ℤ, natAbs}
 use mathlib.Core.List.{List, [], _∷_, map}
 use mathlib.Core.Path.{_≡_, refl, _∙_, ap₂}
-use Prim.Native.Nat.{ℕ, zero, suc, _+_, _*_, _-_, _^_, _≤_}
+use lib.ListN.{getD, length, drop, length-append, length-drop}
 use native.Mathlib.Omega.{arith}
 use borrow.Author.Tests.{leb-true, ltb-true}
-use lib.Dec.{leb, ltb, eqb}
-use lib.IntN.{ℤ, pos, natAbs}
-use lib.ListN.{length, drop, getD, length-append, length-drop}
 use lib.Seq.{length-take-le}
-use Rattle.laws.specs.Sign.{_and_}
+use Rattle.laws.specs.Lists.{joined}
 use Rattle.laws.proofs.Tables.{all}
-use Rattle.laws.proofs.Tests.{and-first, and-second, and-both}
-use Rattle.sheet.specs.RecordA.{limits, inRange, billion, columnsOf}
-use Rattle.sheet.specs.declared.record_a.Corner.{Corner}
-use Rattle.sheet.specs.declared.record_a.Header.{Header}
-use Rattle.sheet.specs.declared.record_a.Limits.{Limits}
-use Rattle.session.specs.Session.{isRealNumber, cornerReal, headerObeys}
-use Rattle.session.proofs.Facts.{Ranged, header-facts, split}
+use Rattle.laws.proofs.Tests.{and-first, and-second, split, and-both}
+use Rattle.numerals.proofs.Numerals.{minus-short}
+use Rattle.field.specs.Field.{inRange, limits}
+use Rattle.field.specs.declared.Limits.{Limits}
+use Rattle.frame.specs.declared.Header.{Header}
+use Rattle.frame.specs.declared.Corner.{Corner}
+use Rattle.frame.specs.Frame.{columnsOf}
+use Rattle.heading.specs.Heading.{headerObeys, isRealNumber, cornerReal, billion}
+use Rattle.heading.proofs.HeadingFacts.{header-facts, Ranged}
+use Rattle.ground.specs.Extremes.{leastStated, greatestStated}
 use Rattle.spell.specs.Spell.{integerFits, realFits}
-use Rattle.spell.proofs.Fits.{fits-real, integer-fits, integer-length, real-length, whole-spacing-fits, fine-spacing-fits, thousands-fit}
-use Rattle.spell.proofs.Texts.{minus-short}
-use Rattle.meaning.specs.Text.{joined}
-use Rattle.meaning.specs.Rules.{leastStated, greatestStated}
-use Rattle.written.specs.Blocks.{Piece, pieceText, sheetCells, piecesBy, blockZero}
+use Rattle.spell.proofs.Fits.{integer-length, real-length, integer-fits, thousands-fit, fits-real, whole-spacing-fits, fine-spacing-fits}
+use Rattle.written.specs.Blocks.{Piece, pieceText, piecesBy, sheetCells, blockZero}
 use Rattle.written.specs.Blocks.Piece.{keeps, whole, real, spacing}
 
 -- ---- a piece that fits fills its place

@@ -1,30 +1,30 @@
 -- Places sent stand on the lattice, and places and extremes fit their fields: between the corners, in thousands of billionths.
 use mathlib.Core.Bool.{true, false}
-use mathlib.Core.List.{List, [], _∷_}
 use mathlib.Core.Path.{_≡_, refl, _∙_, ap}
-use Prim.Native.Nat.{ℕ, zero, suc, _+_, _*_, _/_, _%_, _^_, _≤_, _<_}
-use native.Mathlib.Nat.{mul-le-mul, div-add-mod', dvd-of-mod-eq-zero, dvd-mul-left-of-dvd, mod-eq-zero-of-dvd}
+use Prim.Native.Nat.{ℕ, _*_, _%_, _^_, _≤_, _<_, suc, _/_, zero}
+use native.Mathlib.Nat.{dvd-of-mod-eq-zero, dvd-mul-left-of-dvd, mod-eq-zero-of-dvd, mul-le-mul, div-add-mod'}
 use native.Mathlib.Omega.{arith}
-use borrow.Author.Tests.{leb-true}
-use lib.IntN.{ℤ, pos, negsuc, natAbs, _+ℤ_, _*ℤ_}
-use lib.ListN.{length, getD}
+use lib.IntN.{ℤ, pos, natAbs, _+ℤ_, _*ℤ_, negsuc}
 use lib.Signed.{ltZ}
+use mathlib.Core.List.{List, [], _∷_}
+use lib.ListN.{length, getD}
+use borrow.Author.Tests.{leb-true}
+use Rattle.laws.specs.Sign.{lesser, greater, sameZ}
 use Rattle.laws.proofs.Integers.{parts, le-parts, size-multiple}
-use Rattle.number.proofs.GrammarParts.{by-test}
+use Rattle.laws.proofs.Tests.{by-test}
+use Rattle.lattice.specs.Lattice.{isReal, latticeOf, placeOf}
+use Rattle.lattice.specs.declared.Place.the-variants.{On}
+use Rattle.lattice.proofs.Cases.{real-small, small-real}
+use Rattle.lattice.proofs.LatticeLaws.{lattice-is, on-place, first-real}
+use Rattle.frame.specs.Frame.{columnsOf, rowsOf, west, east, south, north, cellsOf}
+use Rattle.frame.specs.declared.Header.{Header}
+use Rattle.heading.specs.Heading.{billion, headerObeys}
+use Rattle.heading.proofs.HeadingFacts.{Ranged, Heading, header-facts}
+use Rattle.ground.specs.Posts.{void}
+use Rattle.ground.specs.Extremes.{leastOf, greatestOf, filledOnly, leastStated, greatestStated}
 use Rattle.spell.specs.Spell.{realFits}
-use Rattle.spell.proofs.Fits.{real-fits, thousands-fit}
-use Rattle.sheet.specs.Lattice.{isReal, latticeOf, placeOf}
-use Rattle.sheet.specs.RecordA.{columnsOf, rowsOf, west, east, south, north, lesser, greater, billion}
-use Rattle.sheet.specs.declared.lattice.Place.the-variants.{On}
-use Rattle.sheet.specs.declared.record_a.Header.{Header}
-use Rattle.sheet.proofs.Cases.{real-small, small-real}
-use Rattle.sheet.proofs.LatticeLaws.{lattice-is, on-place, first-real}
-use Rattle.session.specs.Session.{headerObeys}
-use Rattle.session.proofs.Facts.{Heading, header-facts, Ranged}
-use Rattle.load.specs.Posts.{void, sameZ}
-use Rattle.load.specs.Deliver.{cellsOf}
-use Rattle.meaning.specs.Rules.{filledOnly, leastOf, greatestOf, leastStated, greatestStated}
-use Rattle.written.specs.Cells.{canSend, sendable, quotientFits, columnCells, firstRow}
+use Rattle.spell.proofs.Fits.{thousands-fit, real-fits}
+use Rattle.written.specs.Cells.{columnCells, firstRow, quotientFits, canSend, sendable}
 use Rattle.written.specs.Blocks.{xSent, yOfRow, ySent}
 use Rattle.written.proofs.ColumnsSent.{some-cells, cells-room, EachSends, each-sends}
 use Rattle.written.proofs.SheetSent.{column-length}

@@ -1,27 +1,26 @@
 -- Posts as they are sent: each fits its six bytes, so the posts of a block have room in it, and blanks fill it up to 1,024 bytes.
 use mathlib.Core.Bool.{true, false}
-use mathlib.Core.List.{List, [], _∷_, _++_}
-use mathlib.Core.Path.{_≡_, refl, _∙_, ap}
-use Prim.Native.Nat.{ℕ, zero, suc, _+_, _*_, _-_, _/_, _%_, _≤_, _<_}
-use native.Mathlib.Nat.{mul-suc}
+use mathlib.Core.Path.{_≡_, ap, _∙_, refl}
+use Prim.Native.Nat.{ℕ, suc, _/_, _≤_, _%_, zero, _<_, _+_, _*_, _-_}
 use native.Mathlib.Omega.{arith}
 use borrow.Author.Tests.{leb-true, eqb-true}
-use lib.Dec.{eqb}
 use lib.IntN.{ℤ, pos, negsuc, natAbs, pos-ne-negsuc}
-use lib.ListN.{length, take, drop, getD, replicate, length-append, length-take, length-drop, length-replicate}
+use lib.Dec.{eqb}
+use lib.ListN.{length, getD, take, drop, length-take, length-drop, length-append, replicate, length-replicate}
+use mathlib.Core.List.{List, _∷_, [], _++_}
 use lib.Seq.{getD-take, getD-drop}
-use Rattle.laws.specs.Sign.{_and_}
+use native.Mathlib.Nat.{mul-suc}
+use Rattle.laws.specs.Sign.{_and_, sameZ}
 use Rattle.laws.proofs.Integers.{size-minus}
-use Rattle.laws.proofs.Tests.{and-first, and-second}
-use Rattle.number.proofs.GrammarParts.{by-test}
+use Rattle.laws.proofs.Tests.{and-first, and-second, by-test}
+use Rattle.lattice.specs.Lattice.{multipleOf}
+use Rattle.frame.specs.declared.Header.{Header}
+use Rattle.frame.specs.Frame.{zOf}
+use Rattle.ground.specs.Posts.{voidPost, void}
 use Rattle.spell.specs.Spell.{integerText, integerFits}
 use Rattle.spell.proofs.Fits.{integer-length, integer-fits}
-use Rattle.sheet.specs.Lattice.{multipleOf}
-use Rattle.sheet.specs.declared.record_a.Header.{Header}
-use Rattle.load.specs.Posts.{void, voidPost, sameZ}
-use Rattle.load.specs.Deliver.{zOf}
-use Rattle.written.specs.Cells.{quotientFits, canSend, sendable, postOf, cellsSent}
-use Rattle.written.specs.Blocks.{headText, postsText, filledUp, profileBlock}
+use Rattle.written.specs.Cells.{quotientFits, canSend, postOf, sendable, cellsSent}
+use Rattle.written.specs.Blocks.{postsText, headText, filledUp, profileBlock}
 use Rattle.written.proofs.ColumnsSent.{each-sends, all-send}
 
 -- ---- one cell and its post

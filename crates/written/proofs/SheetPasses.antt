@@ -1,19 +1,20 @@
 -- A sheet that nothing stands against passes every test: the template's length, record A's rules, the grid's room, its cells.
 use mathlib.Core.List.{List, [], _∷_}
-use mathlib.Core.Path.{_≡_, refl, sym, _∙_, ap}
-use Prim.Native.Nat.{ℕ, suc, _≤_}
+use Prim.Native.Nat.{ℕ, _≤_, suc}
 use native.Mathlib.Omega.{arith}
-use borrow.Author.Tests.{ltb-false, eqb-true, eqb-false}
-use lib.Dec.{ltb, eqb}
 use lib.IntN.{ℤ}
 use lib.ListN.{length}
-use Rattle.number.proofs.GrammarParts.{by-test}
-use Rattle.sheet.specs.RecordA.{recordA, headerOf, faultOf, checkedKind}
-use Rattle.sheet.specs.declared.record_a.Checked.{Checked}
-use Rattle.sheet.specs.declared.record_a.Checked.the-variants.{Sheet, Refused as NoSheet}
-use Rattle.sheet.specs.declared.record_a.Header.{Header}
+use mathlib.Core.Path.{_≡_, _∙_, ap, refl, sym}
+use borrow.Author.Tests.{eqb-false, ltb-false, eqb-true}
+use lib.Dec.{eqb, ltb}
+use Rattle.laws.proofs.Tests.{by-test}
+use Rattle.frame.specs.declared.Header.{Header}
+use Rattle.frame.specs.Frame.{cellsOf, zOf}
+use Rattle.heading.specs.Heading.{headerOf}
+use Rattle.sheet.specs.RecordA.{recordA, faultOf, checkedKind}
+use Rattle.sheet.specs.declared.Checked.the-variants.{Sheet, Refused as NoSheet}
+use Rattle.sheet.specs.declared.Checked.{Checked}
 use Rattle.sheet.proofs.RulesA.{sheet-header}
-use Rattle.load.specs.Deliver.{cellsOf, zOf}
 use Rattle.written.specs.Cells.{canSend, sendable}
 use Rattle.written.specs.Blocks.{sheetCells}
 use Rattle.written.specs.Sending.{gridFault, checkedFault, sheetFault}

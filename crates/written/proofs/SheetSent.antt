@@ -1,26 +1,26 @@
 -- The sheet by its columns, and the column of each block. Carried by: a column is rows cells of the grid, and starts rise.
 use mathlib.Core.Bool.{true, false}
-use mathlib.Core.List.{List, [], _∷_, _++_, map}
-use mathlib.Core.Path.{_≡_, refl, sym, _∙_, ap, ap₂}
-use Prim.Native.Nat.{ℕ, zero, suc, _+_, _*_, _-_, _≤_, _<_}
-use native.Mathlib.Nat.{add-zero, suc-mul, mul-le-mul-right}
+use mathlib.Core.List.{List, _++_, map, [], _∷_}
+use mathlib.Core.Path.{_≡_, sym, _∙_, ap, refl, ap₂}
+use Prim.Native.Nat.{ℕ, zero, suc, _+_, _*_, _≤_, _<_, _-_}
+use native.Mathlib.Nat.{suc-mul, mul-le-mul-right, add-zero}
 use native.Mathlib.Omega.{arith}
-use borrow.Author.Tests.{eqb-true, eqb-false, leb-true, le-leb, lt-leb, ltb-true, ltb-false}
 use lib.Arith.{digits-lt}
-use lib.Dec.{leb, ltb, eqb}
 use lib.IntN.{ℤ, pos, _*ℤ_}
 use lib.ListN.{length, take, drop, getD, length-drop}
 use lib.Seq.{getD-take, getD-drop, take-add, drop-drop, length-take-le}
-use Rattle.number.proofs.GrammarParts.{by-test}
-use Rattle.sheet.specs.RecordA.{columnsOf, rowsOf}
-use Rattle.sheet.specs.declared.record_a.Header.{Header}
-use Rattle.load.specs.Posts.{void, sameZ, blocksFor}
-use Rattle.load.specs.Deliver.{cellsOf}
-use Rattle.meaning.specs.Text.{from, below, joined}
-use Rattle.meaning.specs.Rules.{filledOnly, leastOf, greatestOf, leastStated, greatestStated}
-use Rattle.written.specs.Cells.{canSend, sendable, columnAt, columnCells, profileCells, cellsSent, startAt, columnFor}
+use borrow.Author.Tests.{eqb-true, eqb-false, leb-true, le-leb, lt-leb, ltb-true, ltb-false}
+use lib.Dec.{leb, ltb, eqb}
+use Rattle.laws.specs.Lists.{from, below, joined}
+use Rattle.laws.specs.Sign.{sameZ}
+use Rattle.laws.proofs.Tests.{by-test}
+use Rattle.frame.specs.Frame.{columnsOf, rowsOf, cellsOf}
+use Rattle.frame.specs.declared.Header.{Header}
+use Rattle.ground.specs.Posts.{void, blocksFor}
+use Rattle.ground.specs.Extremes.{filledOnly, leastOf, greatestOf, leastStated, greatestStated}
+use Rattle.written.specs.Cells.{canSend, sendable, columnCells, cellsSent, columnAt, profileCells, startAt, columnFor}
 use Rattle.written.specs.Blocks.{sheetCells}
-use Rattle.written.proofs.ColumnsSent.{filled-sent, each-sends, all-send}
+use Rattle.written.proofs.ColumnsSent.{each-sends, all-send, filled-sent}
 
 -- ---- the cells of a column
 

@@ -1,19 +1,19 @@
 -- Document 01, "Writing": the bytes of each block.
-use mathlib.Core.Bool.{cond}
-use mathlib.Core.List.{List, [], _∷_, _++_, map}
-use Prim.Native.Nat.{ℕ, zero, suc, _+_, _*_, _-_}
+use Prim.Native.Nat.{ℕ, suc, _-_, zero, _+_, _*_}
 use lib.IntN.{ℤ, pos, _+ℤ_, _*ℤ_}
+use mathlib.Core.List.{List, [], _∷_, _++_, map}
+use lib.ListN.{take, length, replicate, drop}
+use mathlib.Core.Bool.{cond}
 use lib.Dec.{eqb}
-use lib.ListN.{length, take, drop, replicate}
-use Rattle.sheet.specs.Lattice.{latticeOf}
-use Rattle.sheet.specs.RecordA.{columnsOf, west, east, south, north, stretch}
-use Rattle.sheet.specs.declared.record_a.Corner.{Corner}
-use Rattle.sheet.specs.declared.record_a.Header.{Header}
-use Rattle.load.specs.Deliver.{cellsOf, zOf}
+use Rattle.laws.specs.Lists.{joined}
+use Rattle.lattice.specs.Lattice.{latticeOf}
+use Rattle.field.specs.Field.{stretch}
+use Rattle.frame.specs.declared.Corner.{Corner}
+use Rattle.frame.specs.declared.Header.{Header}
+use Rattle.frame.specs.Frame.{cellsOf, columnsOf, west, east, south, north, zOf}
+use Rattle.ground.specs.Extremes.{leastStated, greatestStated}
 use Rattle.spell.specs.Spell.{integerText, realText}
-use Rattle.meaning.specs.Text.{joined}
-use Rattle.meaning.specs.Rules.{leastStated, greatestStated}
-use Rattle.written.specs.Cells.{postOf, columnCells, firstRow, cellsSent, startSent, columnWith}
+use Rattle.written.specs.Cells.{columnCells, firstRow, cellsSent, postOf, startSent, columnWith}
 
 -- ---- block 0
 

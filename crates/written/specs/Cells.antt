@@ -1,15 +1,15 @@
 -- Document 01, "Writing": the cells that can be sent, and each column as one profile.
-use mathlib.Core.Bool.{Bool, true, false, cond}
-use mathlib.Core.List.{List, [], _∷_}
-use Prim.Native.Nat.{ℕ, zero, suc, _+_, _*_, _/_, _%_}
+use mathlib.Core.Bool.{Bool, true, cond, false}
+use Prim.Native.Nat.{ℕ, suc, _/_, _%_, _*_, zero, _+_}
 use lib.IntN.{ℤ, pos, negsuc, natAbs}
 use lib.Dec.{leb, eqb}
-use lib.ListN.{length, take, drop}
-use Rattle.laws.specs.Sign.{_and_}
-use Rattle.sheet.specs.Lattice.{multipleOf}
-use Rattle.sheet.specs.RecordA.{columnsOf, rowsOf}
-use Rattle.sheet.specs.declared.record_a.Header.{Header}
-use Rattle.load.specs.Posts.{void, voidPost, sameZ, blocksFor}
+use mathlib.Core.List.{List, [], _∷_}
+use lib.ListN.{take, drop, length}
+use Rattle.laws.specs.Sign.{_and_, sameZ}
+use Rattle.lattice.specs.Lattice.{multipleOf}
+use Rattle.frame.specs.Frame.{rowsOf, columnsOf}
+use Rattle.frame.specs.declared.Header.{Header}
+use Rattle.ground.specs.Posts.{void, voidPost, blocksFor}
 
 -- ---- cells and posts; z is the z spacing in hundredths
 

@@ -1,16 +1,17 @@
 -- Document 01, "Writing": what the writer refuses, in its order, and what it sends.
+use Prim.Native.Nat.{ℕ}
 use mathlib.Core.Bool.{cond}
 use mathlib.Core.List.{List, map}
-use Prim.Native.Nat.{ℕ}
 use lib.IntN.{ℤ}
-use lib.Dec.{leb, ltb, eqb}
+use lib.Dec.{ltb, eqb, leb}
 use lib.ListN.{length}
-use Rattle.sheet.specs.RecordA.{recordA, headerOf}
-use Rattle.sheet.specs.declared.record_a.Checked.{Checked}
-use Rattle.sheet.specs.declared.record_a.Checked.the-variants.{Sheet, Refused as NoSheet}
-use Rattle.sheet.specs.declared.record_a.Header.{Header}
-use Rattle.load.specs.Deliver.{cellsOf, zOf}
-use Rattle.meaning.specs.Text.{below, joined}
+use Rattle.laws.specs.Lists.{below, joined}
+use Rattle.frame.specs.declared.Header.{Header}
+use Rattle.frame.specs.Frame.{cellsOf, zOf}
+use Rattle.heading.specs.Heading.{headerOf}
+use Rattle.sheet.specs.declared.Checked.{Checked}
+use Rattle.sheet.specs.declared.Checked.the-variants.{Sheet, Refused as NoSheet}
+use Rattle.sheet.specs.RecordA.{recordA}
 use Rattle.written.specs.Cells.{sendable, blockCount}
 use Rattle.written.specs.Blocks.{sheetCells, blockSent}
 

@@ -1,8 +1,8 @@
 -- The length of the part that is the name.
+use borrow.Author.Needs.{needs}
 use mathlib.Core.Path.{_∙_, ap}
 use lib.ListN.{length}
 use Rattle.label.proofs.Names.{name-length}
-use borrow.Author.Needs.{needs}
 use Rattle.desk.proofs.dem_name_length.Statement.{statement}
 use Rattle.desk.proofs.dem_name_length.Tie as tie
 

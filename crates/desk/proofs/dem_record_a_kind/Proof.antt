@@ -1,7 +1,7 @@
 -- The kind of the proved verdict, by its two cases.
+use borrow.Author.Needs.{needs}
 use mathlib.Core.Path.{sym, _∙_, ap}
 use Rattle.sheet.specs.RecordA.{checkedKind}
-use borrow.Author.Needs.{needs}
 use Rattle.desk.proofs.dem_record_a_kind.Statement.{statement}
 use Rattle.desk.proofs.dem_record_a_kind.Tie as tie
 

@@ -1,8 +1,8 @@
 -- The name is the part of the block up to the place that `name_end` gives, which says too that it lies inside.
+use borrow.Author.Needs.{needs}
+use native.Mathlib.Omega.{arith}
 use Prim.Native.Nat.{_-_}
 use mathlib.Core.Path.{_≡_, ap}
-use native.Mathlib.Omega.{arith}
-use borrow.Author.Needs.{needs}
 use lib.ListN.{take}
 use Rattle.label.specs.Label.{nameLength}
 use Rattle.label.proofs.name.Statement.{statement}

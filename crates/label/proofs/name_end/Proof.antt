@@ -1,11 +1,11 @@
 -- Where the name ends: the invariant is that the bytes passed change nothing; Ends says what the last byte that is left decides.
 use Prim.Native.Nat.{_≤_}
-use mathlib.Core.Path.{_≡_, refl, sym, _∙_, ap}
-use native.Mathlib.Omega.{arith}
+use mathlib.Core.Path.{_≡_, refl, _∙_, sym, ap}
 use lib.ListN.{length, take}
+use native.Mathlib.Omega.{arith}
 use Rattle.label.specs.Label.{filled}
-use Rattle.label.proofs.Blocks.{name-of, no-name}
-use Rattle.label.proofs.Ends.{blank-off, ends}
+use Rattle.label.proofs.Blocks.{no-name, name-of}
+use Rattle.label.proofs.Ends.{ends, blank-off}
 use Rattle.label.proofs.name_end.Statement.{statement}
 use Rattle.label.proofs.name_end.Tie as tie
 

@@ -1,7 +1,7 @@
 -- The origin of a block of 1024 bytes is the place of its bytes 141 to 144 among the codes; any other block has none.
+use borrow.Author.Needs.{needs}
 use mathlib.Core.Path.{_∙_}
 use native.Mathlib.Omega.{arith}
-use borrow.Author.Needs.{needs}
 use Rattle.label.proofs.Blocks.{origin-of, no-origin}
 use Rattle.label.proofs.origin.Statement.{statement}
 use Rattle.label.proofs.origin.Tie as tie

@@ -2,8 +2,8 @@
 use Prim.Native.Nat.{ℕ, suc}
 use mathlib.Core.List.{List}
 use mathlib.Core.Path.{_≡_, sym, _∙_}
-use borrow.Author.Needs.{needs}
 use lib.ListN.{drop}
+use borrow.Author.Needs.{needs}
 use Rattle.label.specs.Label.{origins, placeIn}
 use Rattle.label.proofs.place.Statement.{statement}
 use Rattle.label.proofs.place.Tie as tie

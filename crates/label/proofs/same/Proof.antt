@@ -1,11 +1,11 @@
 -- Two texts compared: the invariant is that all bytes passed agree; laws' Texts says what the answer is worth.
-use Prim.Native.Nat.{ℕ, _-_, _≤_, _<_}
+use Prim.Native.Nat.{ℕ, _≤_, _<_, _-_}
 use mathlib.Core.Path.{_≡_, sym, ap}
+use lib.ListN.{length, getD}
 use native.Mathlib.Omega.{arith}
 use borrow.Author.Count.{below-none, below-more}
-use lib.ListN.{length, getD}
 use lib.Seq.{ext-getD}
-use Rattle.laws.proofs.Texts.{same-is, same-fails}
+use Rattle.laws.proofs.Texts.{same-fails, same-is}
 use Rattle.label.proofs.same.Statement.{statement}
 use Rattle.label.proofs.same.Tie as tie
 

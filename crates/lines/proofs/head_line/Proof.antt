@@ -1,17 +1,17 @@
 -- The line of a header: rows and columns are the lattices' counts.
-use mathlib.Core.Path.{_≡_, ap}
-use Rattle.sheet.specs.RecordA.{rowsOf, columnsOf}
-use Rattle.sheet.specs.declared.lattice.Lattice.{Lattice}
-use Rattle.lines.specs.Lines.{headLine}
 use borrow.Author.Needs.{needs}
+use mathlib.Core.Path.{_≡_, ap}
+use Rattle.lattice.specs.declared.Lattice.{Lattice}
+use Rattle.frame.specs.Frame.{rowsOf, columnsOf}
+use Rattle.lines.specs.Lines.{headLine}
 use Rattle.lines.proofs.head_line.Statement.{statement}
 use Rattle.lines.proofs.head_line.Tie as tie
 
 row-lattice-requires : tie.Need-row-lattice-requires
-row-lattice-requires c κs = search needs
+row-lattice-requires c κs = tt
 
 column-lattice-requires : tie.Need-column-lattice-requires
-column-lattice-requires c κs = search needs
+column-lattice-requires c κs = tt
 
 sheet-line-requires : tie.Need-sheet-line-requires
 sheet-line-requires c κs = search needs

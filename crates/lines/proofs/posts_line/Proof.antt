@@ -1,8 +1,8 @@
 -- Posts and voids after their words, the last with the line feed.
+use borrow.Author.Needs.{needs}
 use native.Mathlib.Omega.{arith}
 use Rattle.lines.specs.Lines.{postsLine}
 use Rattle.lines.proofs.Putting.{then, wider}
-use borrow.Author.Needs.{needs}
 use Rattle.lines.proofs.posts_line.Statement.{statement}
 use Rattle.lines.proofs.posts_line.Tie as tie
 
@@ -16,7 +16,7 @@ slice-aggregate-put-last : tie.Need-slice-aggregate-put-last
 slice-aggregate-put-last c = search needs
 
 voids-of-requires : tie.Need-voids-of-requires
-voids-of-requires c κs = search needs
+voids-of-requires c κs = tt
 
 put-last-requires : tie.Need-put-last-requires
 put-last-requires c κs = search needs

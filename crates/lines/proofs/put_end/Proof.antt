@@ -1,16 +1,17 @@
 -- The report of a complete sheet, else the blocks taken.
+use borrow.Author.Needs.{needs}
 use mathlib.Core.Path.{_≡_, sym, _∙_}
 use mathlib.Core.Bool.{true, false}
-use Rattle.lines.specs.Lines.{ended, endText}
-use borrow.Author.Needs.{needs}
+use Rattle.session.specs.Session.{complete}
+use Rattle.lines.specs.Lines.{endText}
 use Rattle.lines.proofs.put_end.Statement.{statement}
 use Rattle.lines.proofs.put_end.Tie as tie
 
-is-ended-requires : tie.Need-is-ended-requires
-is-ended-requires c κs = search needs
+is-complete-requires : tie.Need-is-complete-requires
+is-complete-requires c κs = tt
 
 put-report-requires : tie.Need-put-report-requires
-put-report-requires c κs = search needs
+put-report-requires c κs = tt
 
 same-length : tie.Need-same-length
 same-length c = search needs
@@ -21,11 +22,11 @@ returns c =
     let d = c .before .before in
     let i = d .before .before in
     let s = i .before .before .before .args .s in
-    let e : ended s ≡ true = sym (i .before .is-ended .ensures) ∙ i .if1 .taken in
+    let e : complete s ≡ true = sym (i .before .is-complete .ensures) ∙ i .if1 .taken in
     rw e (d .put-report .ensures)
 
 put-unfinished-requires : tie.Need-put-unfinished-requires
-put-unfinished-requires c κs = search needs
+put-unfinished-requires c κs = tt
 
 same-length-2 : tie.Need-same-length-2
 same-length-2 c = search needs
@@ -36,14 +37,14 @@ returns-2 c =
     let d = c .before .before in
     let i = d .before .before in
     let s = i .before .before .before .args .s in
-    let e : ended s ≡ false = sym (i .before .is-ended .ensures) ∙ i .if1 .left in
+    let e : complete s ≡ false = sym (i .before .is-complete .ensures) ∙ i .if1 .left in
     rw e (d .put-unfinished .ensures)
 
 pub put-end-spec : {M : Type 1} → statement M
 put-end-spec =
     tie.close
     (tie.spec
-    is-ended-requires
+    is-complete-requires
     put-report-requires
     same-length
     returns

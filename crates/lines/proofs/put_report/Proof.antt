@@ -1,7 +1,7 @@
 -- What was put in the scratch is the whole text, and that is what is given.
-use Rattle.spell.proofs.Pieces.{front}
-use Rattle.lines.proofs.Putting.{given-of}
 use borrow.Author.Needs.{needs}
+use Rattle.numerals.proofs.Pieces.{front}
+use Rattle.lines.proofs.Putting.{given-front, given-of}
 use Rattle.lines.proofs.put_report.Statement.{statement}
 use Rattle.lines.proofs.put_report.Tie as tie
 
@@ -11,17 +11,17 @@ slice-aggregate-report c = search needs
 report-requires : tie.Need-report-requires
 report-requires c κs = search needs
 
-sub-give : tie.Need-sub-give
-sub-give c = search needs
+sub-put-word : tie.Need-sub-put-word
+sub-put-word c = search needs
 
-part-give-start : tie.Need-part-give-start
-part-give-start c = search needs
+part-put-word-start : tie.Need-part-put-word-start
+part-put-word-start c = search needs
 
-part-give-end : tie.Need-part-give-end
-part-give-end c = search needs
+part-put-word-end : tie.Need-part-put-word-end
+part-put-word-end c = search needs
 
-give-requires : tie.Need-give-requires
-give-requires c κs = search needs
+put-word-requires : tie.Need-put-word-requires
+put-word-requires c κs = tt
 
 same-length : tie.Need-same-length
 same-length c = search needs
@@ -31,7 +31,7 @@ returns c =
     let g = c .before .before in
     let b = g .before .before .before .before .before in
     let o = b .before .before .before in
-    given-of (o .args .out .now) (front (b .report .ensures .puts)) (g .give .ensures)
+    given-of (o .args .out .now) (front (b .report .ensures .puts)) (given-front (g .put-word .ensures))
 
 pub put-report-spec : {M : Type 1} → statement M
 put-report-spec =
@@ -39,9 +39,9 @@ put-report-spec =
     (tie.spec
     slice-aggregate-report
     report-requires
-    sub-give
-    part-give-start
-    part-give-end
-    give-requires
+    sub-put-word
+    part-put-word-start
+    part-put-word-end
+    put-word-requires
     same-length
     returns)

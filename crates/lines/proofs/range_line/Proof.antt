@@ -1,12 +1,12 @@
 -- The two extremes after their words, and the line feed.
+use borrow.Author.Needs.{needs}
 use mathlib.Core.Path.{_≡_, _∙_, ap}
 use native.Mathlib.Omega.{arith}
 use mir.Syntax.{w64}
 use mir.Val.{toZ, ofZ}
 use mir.Facts.{toZ-ofZ}
 use Rattle.lines.specs.Lines.{extreme, rangeLine}
-use Rattle.lines.proofs.Putting.{then, wider}
-use borrow.Author.Needs.{needs}
+use Rattle.lines.proofs.Putting.{then, within, wider}
 use Rattle.lines.proofs.range_line.Statement.{statement}
 use Rattle.lines.proofs.range_line.Tie as tie
 
@@ -14,7 +14,7 @@ slice-aggregate-put-height : tie.Need-slice-aggregate-put-height
 slice-aggregate-put-height c = search needs
 
 extreme-of-requires : tie.Need-extreme-of-requires
-extreme-of-requires c κs = search needs
+extreme-of-requires c κs = tt
 
 put-height-requires : tie.Need-put-height-requires
 put-height-requires c κs = search needs
@@ -23,16 +23,13 @@ slice-aggregate-put-height-2 : tie.Need-slice-aggregate-put-height-2
 slice-aggregate-put-height-2 c = search needs
 
 extreme-of-requires-2 : tie.Need-extreme-of-requires-2
-extreme-of-requires-2 c κs = search needs
+extreme-of-requires-2 c κs = tt
 
 put-height-requires-2 : tie.Need-put-height-requires-2
 put-height-requires-2 c κs = search needs
 
-slice-aggregate-put-word : tie.Need-slice-aggregate-put-word
-slice-aggregate-put-word c = search needs
-
-put-word-requires : tie.Need-put-word-requires
-put-word-requires c κs = search needs
+put-byte-requires : tie.Need-put-byte-requires
+put-byte-requires c κs = tt
 
 same-length : tie.Need-same-length
 same-length c = search needs
@@ -41,7 +38,7 @@ returns : tie.Need-returns
 unfolding rangeLine
 returns c =
     let f = c .before .before in
-    let high = f .before .before .before .before .before in
+    let high = f .before .before .before .before in
     let low = high .before .before .before .before .before .before in
     let s = low .before .before .before .before .before in
     let a = s .args in
@@ -57,7 +54,7 @@ returns c =
     in
     rw (← e, ← g)
     (wider (omega arith)
-    (then (low .put-height .ensures) (then (high .put-height2 .ensures) (f .put-word .ensures))))
+    (then (low .put-height .ensures) (then (high .put-height2 .ensures) (within 1 (f .put-byte .ensures) (omega arith) (omega arith)))))
 
 pub range-line-spec : {M : Type 1} → statement M
 range-line-spec =
@@ -69,7 +66,6 @@ range-line-spec =
     slice-aggregate-put-height-2
     extreme-of-requires-2
     put-height-requires-2
-    slice-aggregate-put-word
-    put-word-requires
+    put-byte-requires
     same-length
     returns)

@@ -1,8 +1,8 @@
 -- Three numbers after their words, the last with the line feed.
+use borrow.Author.Needs.{needs}
 use native.Mathlib.Omega.{arith}
 use Rattle.lines.specs.Lines.{refusedText}
 use Rattle.lines.proofs.Putting.{then, wider}
-use borrow.Author.Needs.{needs}
 use Rattle.lines.proofs.refusal.Statement.{statement}
 use Rattle.lines.proofs.refusal.Tie as tie
 

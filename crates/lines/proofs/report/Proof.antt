@@ -1,12 +1,12 @@
 -- The four lines joined.
-use mathlib.Core.Path.{_≡_}
+use borrow.Author.Needs.{needs}
 use native.Mathlib.Omega.{arith}
+use mathlib.Core.Path.{_≡_}
 use mir.Syntax.{w64}
 use mir.Val.{toZ, ofZ}
 use mir.Facts.{toZ-ofZ}
 use Rattle.lines.specs.Lines.{endLine, reportText}
 use Rattle.lines.proofs.Putting.{then, wider}
-use borrow.Author.Needs.{needs}
 use Rattle.lines.proofs.report.Statement.{statement}
 use Rattle.lines.proofs.report.Tie as tie
 

@@ -1,7 +1,7 @@
 -- Five numbers after their words, and the line feed.
-use native.Mathlib.Omega.{arith}
-use Rattle.lines.proofs.Putting.{then, wider}
 use borrow.Author.Needs.{needs}
+use native.Mathlib.Omega.{arith}
+use Rattle.lines.proofs.Putting.{then, within, wider}
 use Rattle.lines.proofs.sheet_line.Statement.{statement}
 use Rattle.lines.proofs.sheet_line.Tie as tie
 
@@ -35,11 +35,8 @@ slice-aggregate-put-units c = search needs
 put-units-requires : tie.Need-put-units-requires
 put-units-requires c κs = search needs
 
-slice-aggregate-put-word : tie.Need-slice-aggregate-put-word
-slice-aggregate-put-word c = search needs
-
-put-word-requires : tie.Need-put-word-requires
-put-word-requires c κs = search needs
+put-byte-requires : tie.Need-put-byte-requires
+put-byte-requires c κs = tt
 
 same-length : tie.Need-same-length
 same-length c = search needs
@@ -47,7 +44,7 @@ same-length c = search needs
 returns : tie.Need-returns
 returns c =
     let f = c .before .before in
-    let z = f .before .before .before .before .before in
+    let z = f .before .before .before .before in
     let y = z .before .before .before .before .before in
     let x = y .before .before .before .before .before in
     let columns = x .before .before .before .before .before in
@@ -56,7 +53,7 @@ returns c =
     (then (rows .put-number .ensures)
     (then (columns .put-number2 .ensures)
     (then (x .put-number3 .ensures)
-    (then (y .put-number4 .ensures) (then (z .put-units .ensures) (f .put-word .ensures))))))
+    (then (y .put-number4 .ensures) (then (z .put-units .ensures) (within 1 (f .put-byte .ensures) (omega arith) (omega arith)))))))
 
 pub sheet-line-spec : {M : Type 1} → statement M
 sheet-line-spec =
@@ -72,7 +69,6 @@ sheet-line-spec =
     put-number-requires-4
     slice-aggregate-put-units
     put-units-requires
-    slice-aggregate-put-word
-    put-word-requires
+    put-byte-requires
     same-length
     returns)

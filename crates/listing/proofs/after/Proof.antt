@@ -1,7 +1,7 @@
 -- Where the listing stands after an answer: by its case.
+use borrow.Author.Needs.{needs}
 use mathlib.Core.Path.{sym, _∙_, ap}
 use Rattle.listing.specs.Turns.{turnAfter}
-use borrow.Author.Needs.{needs}
 use Rattle.listing.proofs.after.Statement.{statement}
 use Rattle.listing.proofs.after.Tie as tie
 

@@ -1,7 +1,7 @@
 -- A refusal's line, or what the end of the input prints.
+use borrow.Author.Needs.{needs}
 use borrow.Author.Tests.{eq-eqb, ne-eqb}
 use Rattle.listing.specs.Turns.{lastText}
-use borrow.Author.Needs.{needs}
 use Rattle.listing.proofs.put_last.Statement.{statement}
 use Rattle.listing.proofs.put_last.Tie as tie
 

@@ -1,9 +1,9 @@
 -- The end of the input, or a delivery.
 use mathlib.Core.Path.{refl, _∙_, ap}
 use borrow.Author.Tests.{eq-eqb, ne-eqb}
-use Rattle.load.specs.declared.Delivered.{Delivered}
-use Rattle.listing.specs.Turns.{turnAfter}
 use borrow.Author.Needs.{needs}
+use Rattle.delivery.specs.declared.Delivered.{Delivered}
+use Rattle.listing.specs.Turns.{turnAfter}
 use Rattle.listing.proofs.take_block.Statement.{statement}
 use Rattle.listing.proofs.take_block.Tie as tie
 

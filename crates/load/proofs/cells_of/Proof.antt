@@ -1,10 +1,10 @@
 -- Columns times rows, each at most 2048.
-use mathlib.Core.Path.{ap₂}
-use Prim.Native.Nat.{_*_, _≤_}
+use borrow.Author.Needs.{needs}
+use Prim.Native.Nat.{_≤_, _*_}
 use native.Mathlib.Nat.{mul-le-mul}
 use native.Mathlib.Omega.{arith}
-use Rattle.sheet.specs.declared.lattice.Lattice.{Lattice}
-use borrow.Author.Needs.{needs}
+use mathlib.Core.Path.{ap₂}
+use Rattle.lattice.specs.declared.Lattice.{Lattice}
 use Rattle.load.proofs.cells_of.Statement.{statement}
 use Rattle.load.proofs.cells_of.Tie as tie
 

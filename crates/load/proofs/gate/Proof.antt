@@ -1,13 +1,10 @@
 -- The first tests in their order.
-use mathlib.Core.Bool.{true}
-use mathlib.Core.Path.{_≡_, sym, _∙_, subst}
-use Prim.Native.Nat.{ℕ, _≤_, _<_}
-use native.Mathlib.Omega.{arith}
-use borrow.Author.Tests.{not-true, not-false, eq-eqb, ne-eqb, lt-ltb, le-ltb}
-use Rattle.sheet.specs.RecordA.{columnsOf, rowsOf}
-use Rattle.session.specs.Session.{sound}
-use Rattle.load.proofs.Readiness.{ready-of}
+use mathlib.Core.Path.{sym, _∙_, _≡_}
+use borrow.Author.Tests.{ne-eqb, not-true, eq-eqb, not-false, lt-ltb, le-ltb}
 use borrow.Author.Needs.{needs}
+use mathlib.Core.Bool.{true, false}
+use Rattle.session.specs.Session.{sound}
+use Rattle.load.proofs.Gates.{enough}
 use Rattle.load.proofs.gate.Statement.{statement}
 use Rattle.load.proofs.gate.Tie as tie
 
@@ -38,23 +35,50 @@ is-complete-requires c κs = search needs
 returns-6 : tie.Need-returns-6
 returns-6 c = sym (simp (eq-eqb _ _ (c .before .before .before .before .before .before .before .before .before .if1 .left), sound-is (c .before .before .before .before .before .before .before), le-ltb _ _ (c .before .before .before .before .before .if3 .left), le-ltb _ _ (c .before .before .before .if4 .left), ne-eqb _ _ (c .before .before .if5 .left), sym (c .before .is-complete .ensures) ∙ c .if6 .taken))
 
-sizes : (c : tie.After-h) → (columnsOf (c .before .before .before .before .before .before .before .before .before .before .before .args .s .header) ≤ 2048) × (rowsOf (c .before .before .before .before .before .before .before .before .before .before .before .args .s .header) ≤ 2048)
-sizes c =
-    let r = ready-of (c .before .before .before .before .before .before .before .before .before .before .before .args .s) (sound-is (c .before .before .before .before .before .before .before .before)) (omega (arith, c .before .before .before .before .before .before .if3 .left, c .before .before .before .before .if4 .left, c .before .before .before .if5 .left)) in
-    (r .columns-most, r .rows-most)
-
-cells-of-requires : tie.Need-cells-of-requires
-cells-of-requires c κs = sizes c
+has-room-requires : tie.Need-has-room-requires
+has-room-requires c κs = search needs
 
 returns-7 : tie.Need-returns-7
 returns-7 c =
-    let q = subst (λ (x : ℕ). c .before .before .before .before .before .before .before .before .before .before .before .before .before .args .cells < x) (c .before .cells-of .ensures) (c .if7 .taken) in
-    sym (simp (eq-eqb _ _ (c .before .before .before .before .before .before .before .before .before .before .before .before .if1 .left), sound-is (c .before .before .before .before .before .before .before .before .before .before), le-ltb _ _ (c .before .before .before .before .before .before .before .before .if3 .left), le-ltb _ _ (c .before .before .before .before .before .before .if4 .left), ne-eqb _ _ (c .before .before .before .before .before .if5 .left), sym (c .before .before .before .before .is-complete .ensures) ∙ c .before .before .before .if6 .left, lt-ltb _ _ q))
+    let r = c .before in
+    let six = r .before .before in
+    let five = six .before .before in
+    let four = five .before in
+    let three = four .before .before in
+    let two = three .before .before in
+    let one = two .before .before in
+    let a = one .before .args in
+    sym
+    (simp (
+      eq-eqb _ _ (one .if1 .left),
+      sound-is two,
+      le-ltb _ _ (three .if3 .left),
+      le-ltb _ _ (four .if4 .left),
+      ne-eqb _ _ (five .if5 .left),
+      sym (six .before .is-complete .ensures) ∙ six .if6 .left,
+      enough (a .s .header) (a .cells) false (sym (r .has-room .ensures) ∙ not-true _ (c .if7 .taken)),
+    ))
 
 returns-8 : tie.Need-returns-8
 returns-8 c =
-    let q = subst (λ (x : ℕ). x ≤ c .before .before .before .before .before .before .before .before .before .before .before .before .before .args .cells) (c .before .cells-of .ensures) (c .if7 .left) in
-    sym (simp (eq-eqb _ _ (c .before .before .before .before .before .before .before .before .before .before .before .before .if1 .left), sound-is (c .before .before .before .before .before .before .before .before .before .before), le-ltb _ _ (c .before .before .before .before .before .before .before .before .if3 .left), le-ltb _ _ (c .before .before .before .before .before .before .if4 .left), ne-eqb _ _ (c .before .before .before .before .before .if5 .left), sym (c .before .before .before .before .is-complete .ensures) ∙ c .before .before .before .if6 .left, le-ltb _ _ q))
+    let r = c .before in
+    let six = r .before .before in
+    let five = six .before .before in
+    let four = five .before in
+    let three = four .before .before in
+    let two = three .before .before in
+    let one = two .before .before in
+    let a = one .before .args in
+    sym
+    (simp (
+      eq-eqb _ _ (one .if1 .left),
+      sound-is two,
+      le-ltb _ _ (three .if3 .left),
+      le-ltb _ _ (four .if4 .left),
+      ne-eqb _ _ (five .if5 .left),
+      sym (six .before .is-complete .ensures) ∙ six .if6 .left,
+      enough (a .s .header) (a .cells) true (sym (r .has-room .ensures) ∙ not-false _ (c .if7 .left)),
+    ))
 
 pub gate-spec : {M : Type 1} → statement M
 gate-spec =
@@ -68,6 +92,6 @@ gate-spec =
     returns-5
     is-complete-requires
     returns-6
-    cells-of-requires
+    has-room-requires
     returns-7
     returns-8)

@@ -1,10 +1,10 @@
 -- A sign and a size joined: what the machine's negation gives.
 use borrow.Author.Needs.{needs}
 use mathlib.Core.Path.{sym, _∙_, ap}
-use mir.Syntax.{w64}
 use mir.Facts.{toZ-ofZ, toZ-pos}
+use mir.Syntax.{w64}
 use Rattle.laws.specs.Sign.{signed}
-use Rattle.laws.proofs.Signs.{negated, negated-fits}
+use Rattle.laws.proofs.Signs.{negated-fits, negated}
 use Rattle.number.proofs.join.Statement.{statement}
 use Rattle.number.proofs.join.Tie as tie
 

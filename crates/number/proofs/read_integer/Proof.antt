@@ -1,12 +1,12 @@
 -- The integer reading, by the places that the steps found; Fields has what each test decides.
-use mathlib.Core.Bool.{true}
-use mathlib.Core.Path.{_≡_, sym, _∙_, ap, ap₂}
 use borrow.Author.Needs.{needs}
+use mathlib.Core.Path.{sym, _∙_, _≡_, ap, ap₂}
+use mathlib.Core.Bool.{true}
 use mir.Facts.{toZ-ofZ}
 use Rattle.laws.specs.Sign.{signed}
-use Rattle.number.specs.Bytes.{isMinus, starts, digits, number}
 use Rattle.number.specs.Integer.{integer, read, integerForm}
-use Rattle.number.proofs.Fields.{within-none, within-long, integer-wrong, integer-good, unsigned-is, form-none, form-short, form-good}
+use Rattle.number.specs.Bytes.{isMinus, starts, digits, number}
+use Rattle.number.proofs.Fields.{within-none, within-long, integer-wrong, form-none, form-short, integer-good, unsigned-is, form-good}
 use Rattle.number.proofs.read_integer.Statement.{statement}
 use Rattle.number.proofs.read_integer.Tie as tie
 

@@ -1,27 +1,18 @@
 -- The real reading, by the places that the steps found; Fields and Reals have what each test decides.
-use Prim.Native.Nat.{_^_, _≤_, _<_}
-use mathlib.Core.Bool.{true}
-use mathlib.Core.Path.{_≡_, sym, _∙_, ap}
-use native.Mathlib.Omega.{arith}
+use borrow.Author.Needs.{needs}
+use mathlib.Core.Path.{sym, _∙_, _≡_, ap}
 use borrow.Author.Tests.{not-true, not-false}
+use mathlib.Core.Bool.{true}
+use Prim.Native.Nat.{_^_, _≤_, _<_}
+use native.Mathlib.Omega.{arith}
 use lib.Dec.{lit≤}
-use Rattle.number.specs.Bytes.{isMinus, starts}
 use Rattle.number.specs.Real.{real}
-use Rattle.number.specs.Steps.{readingOf}
 use Rattle.number.specs.declared.decimal.Mantissa.{Mantissa}
 use Rattle.number.specs.declared.decimal.Power.{Power}
+use Rattle.number.specs.Bytes.{isMinus, starts}
+use Rattle.number.specs.Steps.{readingOf}
 use Rattle.number.proofs.Fields.{within-none, within-long, unsigned-is}
-use Rattle.number.proofs.Reals.{
-  real-wrong,
-  real-good,
-  form-no-digit,
-  form-no-power,
-  form-no-end,
-  form-real,
-  value-lowered,
-  value-raised,
-}
-use borrow.Author.Needs.{needs}
+use Rattle.number.proofs.Reals.{real-wrong, form-no-digit, form-no-power, form-no-end, real-good, form-real, value-lowered, value-raised}
 use Rattle.number.proofs.read_real.Statement.{statement}
 use Rattle.number.proofs.read_real.Tie as tie
 

@@ -1,10 +1,10 @@
 -- A scaled value with its sign, or the kind of its refusal.
-use mathlib.Core.Path.{sym, _∙_, ap}
+use borrow.Author.Needs.{needs}
 use native.Mathlib.Omega.{arith}
+use mathlib.Core.Path.{sym, _∙_, ap}
 use mir.Facts.{toZ-ofZ}
 use Rattle.number.specs.Integer.{read}
 use Rattle.number.specs.Steps.{readingOf}
-use borrow.Author.Needs.{needs}
 use Rattle.number.proofs.settle.Statement.{statement}
 use Rattle.number.proofs.settle.Tie as tie
 

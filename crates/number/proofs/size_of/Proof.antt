@@ -1,14 +1,14 @@
 -- A number's size: below zero it is raised by one, turned, and one added; the law of that is `turned`.
+use mathlib.Core.Path.{_≡_, subst, _∙_, ap, subst⁻¹}
+use mir.Syntax.{w64}
+use mir.Val.{toZ, ofZ, SFits, Fits}
+use mir.Facts.{toZ-ofZ, sfits-toZ, fits-ofZ}
 use mathlib.Core.Bool.{true}
-use mathlib.Core.Path.{_≡_, _∙_, ap, subst, subst⁻¹}
-use Prim.Native.Nat.{_+_}
+use lib.IntN.{pos, _+ℤ_, _-ℤ_, natAbs}
+use lib.Signed.{ltZ, mag, nonNeg}
 use native.Mathlib.Omega.{arith}
 use lib.Dec.{T}
-use lib.IntN.{pos, natAbs, _+ℤ_, _-ℤ_}
-use lib.Signed.{mag, ltZ, nonNeg}
-use mir.Syntax.{w64}
-use mir.Val.{Fits, SFits, toZ, ofZ}
-use mir.Facts.{toZ-ofZ, sfits-toZ, fits-ofZ}
+use Prim.Native.Nat.{_+_}
 use Rattle.laws.proofs.Signs.{Turned, turned, as-unsigned}
 use Rattle.number.proofs.size_of.Statement.{statement}
 use Rattle.number.proofs.size_of.Tie as tie

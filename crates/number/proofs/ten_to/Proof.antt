@@ -1,9 +1,9 @@
 -- The table of powers of ten: one test over all of it.
-use Prim.Native.Nat.{_^_, _<_}
 use mathlib.Core.Path.{sym}
 use native.Mathlib.Omega.{arith}
+use borrow.Author.Tests.{le-ltb, lt-ltb}
 use borrow.Author.Needs.{needs}
-use borrow.Author.Tests.{lt-ltb, le-ltb}
+use Prim.Native.Nat.{_^_, _<_}
 use Rattle.laws.proofs.Tables.{entry}
 use Rattle.number.specs.Tens.{tenTo}
 use Rattle.number.proofs.ten_to.Statement.{statement}

@@ -1,11 +1,11 @@
 -- The front of the grid that is lent has as many cells as were asked for.
+use borrow.Author.Needs.{needs}
 use mathlib.Core.Path.{sym, ap}
+use lib.Seq.{length-take-le}
 use mathlib.Core.List.{List, _++_}
 use lib.IntN.{ℤ}
 use lib.ListN.{drop}
 use Rattle.replay.specs.Turns.{turnAfter}
-use lib.Seq.{length-take-le}
-use borrow.Author.Needs.{needs}
 use Rattle.replay.proofs.deliver.Statement.{statement}
 use Rattle.replay.proofs.deliver.Tie as tie
 

@@ -1,6 +1,6 @@
 -- The front of the block that is lent has as many bytes as the script names.
-use Rattle.laws.proofs.Fronts.{front-of}
 use borrow.Author.Needs.{needs}
+use Rattle.laws.proofs.Fronts.{front-of}
 use Rattle.replay.proofs.lend_block.Statement.{statement}
 use Rattle.replay.proofs.lend_block.Tie as tie
 

@@ -1,9 +1,9 @@
 -- The front of the grid that is run has as many cells as the script names.
+use borrow.Author.Needs.{needs}
 use mathlib.Core.Path.{subst}
 use lib.IntN.{pos}
-use Rattle.replay.specs.Script.{Fitting}
 use Rattle.laws.proofs.Fronts.{front-of}
-use borrow.Author.Needs.{needs}
+use Rattle.replay.specs.Script.{Fitting}
 use Rattle.replay.proofs.main.Statement.{statement}
 use Rattle.replay.proofs.main.Tie as tie
 

@@ -1,8 +1,8 @@
 -- What a script names of a delivery lies within the grid and the block.
+use borrow.Author.Needs.{needs}
 use mathlib.Core.Path.{subst}
 use lib.ListN.{length}
 use Rattle.replay.specs.Script.{Within}
-use borrow.Author.Needs.{needs}
 use Rattle.replay.proofs.next_delivery.Statement.{statement}
 use Rattle.replay.proofs.next_delivery.Tie as tie
 

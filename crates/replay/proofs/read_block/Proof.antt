@@ -1,7 +1,7 @@
 -- The script ended inside the delivery, or what was read is delivered.
+use borrow.Author.Needs.{needs}
 use mathlib.Core.Logic.{inl, inr}
 use mathlib.Core.Path.{refl}
-use borrow.Author.Needs.{needs}
 use Rattle.replay.proofs.read_block.Statement.{statement}
 use Rattle.replay.proofs.read_block.Tie as tie
 

@@ -1,7 +1,7 @@
 -- How many blocks: none of a sheet that is refused.
-use mathlib.Core.Path.{sym, _∙_}
-use Rattle.send.proofs.AnswerLaws.{good-fits, good-count, bad-count}
 use borrow.Author.Needs.{needs}
+use mathlib.Core.Path.{sym, _∙_}
+use Rattle.send.proofs.AnswerLaws.{good-fits, bad-count, good-count}
 use Rattle.send.proofs.block_count.Statement.{statement}
 use Rattle.send.proofs.block_count.Tie as tie
 

@@ -1,7 +1,7 @@
 -- "1 lent block length (number 0)", then the sheet, then the number.
-use mathlib.Core.Path.{sym, _∙_}
-use Rattle.send.proofs.AnswerLaws.{good-asked, good-answer, bad-answer, length-answer}
 use borrow.Author.Needs.{needs}
+use mathlib.Core.Path.{sym, _∙_}
+use Rattle.send.proofs.AnswerLaws.{length-answer, good-asked, bad-answer, good-answer}
 use Rattle.send.proofs.write_block.Statement.{statement}
 use Rattle.send.proofs.write_block.Tie as tie
 

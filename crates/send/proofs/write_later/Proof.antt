@@ -1,6 +1,6 @@
 -- A block that is not block 0: the column that has it, and its block in that profile.
-use Rattle.send.proofs.AnswerLaws.{asked-find, found-asked, found-block}
 use borrow.Author.Needs.{needs}
+use Rattle.send.proofs.AnswerLaws.{asked-find, found-asked, found-block}
 use Rattle.send.proofs.write_later.Statement.{statement}
 use Rattle.send.proofs.write_later.Tie as tie
 

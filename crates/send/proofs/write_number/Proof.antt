@@ -1,7 +1,7 @@
 -- Past the count nothing is written; block 0 and the later ones are.
+use borrow.Author.Needs.{needs}
 use native.Mathlib.Omega.{arith}
 use Rattle.send.proofs.AnswerLaws.{past-end, written-zero, written-later}
-use borrow.Author.Needs.{needs}
 use Rattle.send.proofs.write_number.Statement.{statement}
 use Rattle.send.proofs.write_number.Tie as tie
 

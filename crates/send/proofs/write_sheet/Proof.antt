@@ -1,8 +1,8 @@
 -- Judged, and written where nothing stands against it: WholeJudged has each answer.
+use borrow.Author.Needs.{needs}
 use mathlib.Core.Path.{sym, _∙_}
 use Rattle.send.proofs.AnswerLaws.{good-fits}
 use Rattle.send.proofs.WholeJudged.{sheet-refused, sheet-sent}
-use borrow.Author.Needs.{needs}
 use Rattle.send.proofs.write_sheet.Statement.{statement}
 use Rattle.send.proofs.write_sheet.Tie as tie
 

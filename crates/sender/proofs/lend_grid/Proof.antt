@@ -1,9 +1,9 @@
 -- The front of the grid that is lent has as many cells as the bytes say.
+use borrow.Author.Needs.{needs}
+use lib.IntN.{pos}
 use mathlib.Core.Path.{_∙_, ap}
 use Prim.Native.Nat.{ℕ, _*_}
-use lib.IntN.{pos}
 use Rattle.laws.proofs.Fronts.{front-of}
-use borrow.Author.Needs.{needs}
 use Rattle.sender.proofs.lend_grid.Statement.{statement}
 use Rattle.sender.proofs.lend_grid.Tie as tie
 

@@ -1,7 +1,7 @@
 -- The cells that the bytes say lie within the grid, four bytes for each.
+use borrow.Author.Needs.{needs}
 use mathlib.Core.Path.{subst}
 use Rattle.sender.specs.Input.{Fitting}
-use borrow.Author.Needs.{needs}
 use Rattle.sender.proofs.run.Statement.{statement}
 use Rattle.sender.proofs.run.Tie as tie
 

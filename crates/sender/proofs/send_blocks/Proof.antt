@@ -1,7 +1,7 @@
 -- The loop ends: the measure is the blocks that are left.
 use Prim.Native.Nat.{_-_}
-use native.Mathlib.Omega.{arith}
 use borrow.Author.Needs.{needs}
+use native.Mathlib.Omega.{arith}
 use Rattle.sender.proofs.send_blocks.Statement.{statement}
 use Rattle.sender.proofs.send_blocks.Tie as tie
 

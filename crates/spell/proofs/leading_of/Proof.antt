@@ -1,11 +1,11 @@
 -- The leading digits: filled up or cut, each by its law.
 use borrow.Author.Needs.{needs}
-use mathlib.Core.Path.{_≡_, sym, _∙_, ap}
-use Prim.Native.Nat.{ℕ, _*_, _-_, _/_, _^_, _≤_}
+use mathlib.Core.Path.{sym, _∙_, ap, _≡_}
+use Prim.Native.Nat.{ℕ, _*_, _^_, _≤_, _-_, _/_}
 use native.Mathlib.Omega.{arith}
-use Rattle.laws.proofs.Tens.{ten-pos, ten-up}
+use Rattle.laws.proofs.Tens.{ten-up, ten-pos}
 use Rattle.number.proofs.Tens.{ten-is}
-use Rattle.spell.proofs.Leading.{leading-filled, leading-cut, leading-below}
+use Rattle.spell.proofs.Leading.{leading-filled, leading-below, leading-cut}
 use Rattle.spell.proofs.leading_of.Statement.{statement}
 use Rattle.spell.proofs.leading_of.Tie as tie
 

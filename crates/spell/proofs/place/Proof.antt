@@ -1,12 +1,12 @@
 -- The text placed: up to i the field is the justified text, past it as it was lent. One copied byte carries a turn.
-use mathlib.Core.List.{List, _++_}
+use mathlib.Core.List.{_++_, List}
 use mathlib.Core.Path.{_≡_, refl, _∙_, ap}
-use Prim.Native.Nat.{ℕ, _-_, _≤_, _<_}
+use Prim.Native.Nat.{_≤_, _-_, ℕ, _<_}
+use lib.ListN.{length, take, drop, replicate, getD, set, length-set}
+use borrow.Author.Tests.{lt-leb, le-leb}
 use native.Mathlib.Omega.{arith}
-use borrow.Author.Tests.{le-leb, lt-leb}
-use lib.ListN.{length, take, drop, getD, replicate, set, length-set}
 use Rattle.spell.specs.Spell.{justified}
-use Rattle.spell.proofs.Pieces.{copy-turn, copied, justified-length}
+use Rattle.spell.proofs.Pieces.{copy-turn, justified-length, copied}
 use Rattle.spell.proofs.place.Statement.{statement}
 use Rattle.spell.proofs.place.Tie as tie
 

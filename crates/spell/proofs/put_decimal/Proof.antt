@@ -1,16 +1,18 @@
 -- A minus, "0." with the leading digits, and the power: three pieces joined, with the count of digits that the size has.
-use mathlib.Core.List.{List, _∷_, _++_}
 use mathlib.Core.Path.{_≡_, _∙_, ap, subst}
-use Prim.Native.Nat.{ℕ, _^_, _≤_, _<_}
+use lib.IntN.{natAbs, ℤ}
+use mir.Facts.{toZ-ofZ}
+use Prim.Native.Nat.{_≤_, _^_, _<_, ℕ}
 use native.Mathlib.Omega.{arith}
 use borrow.Author.Needs.{needs}
-use lib.IntN.{ℤ, natAbs}
-use mir.Facts.{toZ-ofZ}
-use Rattle.spell.specs.Spell.{spell, minus, decimal, count, leading, powerText}
-use Rattle.spell.specs.Pieces.{Puts}
-use Rattle.spell.proofs.Counts.{count-most, count-above}
-use Rattle.spell.proofs.Pieces.{joined, spell-length}
-use Rattle.spell.proofs.Texts.{minus-short}
+use mathlib.Core.List.{List, _∷_, _++_}
+use Rattle.numerals.specs.Numerals.{minus, spell, count}
+use Rattle.numerals.specs.Pieces.{Puts, GivenAt}
+use Rattle.numerals.proofs.Counts.{count-most, count-above}
+use Rattle.numerals.proofs.Pieces.{puts, joined}
+use Rattle.numerals.proofs.Numerals.{minus-short}
+use Rattle.numerals.proofs.Spelling.{spell-length}
+use Rattle.spell.specs.Spell.{leading, powerText, decimal}
 use Rattle.spell.proofs.put_decimal.Statement.{statement}
 use Rattle.spell.proofs.put_decimal.Tie as tie
 
@@ -27,8 +29,10 @@ start c = c .before .before .before .before .before
 head : (c : tie.After-put-minus)
     → Puts (start c .args .text .now) 0 (minus (start c .args .value)) (c .put-minus .last .0) (c .put-minus .result)
 head c =
-    subst (λ (z : ℤ). Puts (start c .args .text .now) 0 (minus z) (c .put-minus .last .0) (c .put-minus .result))
-    (toZ-ofZ (start c .fits .value)) (c .put-minus .ensures)
+    puts
+    (subst (λ (z : ℤ). GivenAt 0 (minus z) (start c .args .text .now) (c .put-minus .last .0) (c .put-minus .result))
+    (toZ-ofZ (start c .fits .value)) (c .put-minus .ensures))
+    (omega (arith, minus-short (start c .args .value), start c .pre))
 
 size-of-requires : tie.Need-size-of-requires
 size-of-requires c κs = search needs

@@ -1,7 +1,10 @@
 -- The letter, the power's sign and its two digits: three pieces joined, by the sign.
 use borrow.Author.Needs.{needs}
+use Prim.Native.Nat.{_-_}
+use native.Mathlib.Omega.{arith}
 use borrow.Author.Tests.{lt-ltb, le-ltb}
-use Rattle.spell.proofs.Pieces.{joined}
+use Rattle.numerals.proofs.Numerals.{digits-put}
+use Rattle.numerals.proofs.Pieces.{puts, joined}
 use Rattle.spell.proofs.put_power.Statement.{statement}
 use Rattle.spell.proofs.put_power.Tie as tie
 
@@ -26,7 +29,11 @@ returns c =
     let q = d .before .before .before .before in
     let i = q .before .before in
     let p = i .before .before .before in
-    rw (lt-ltb _ _ (i .if1 .taken)) (joined (p .put-byte .ensures) (joined (q .put-byte2 .ensures) (d .put-digits .ensures)))
+    let s = p .before .before .before in
+    let f = puts (p .put-byte .ensures) (omega (arith, s .pre)) in
+    let g = puts (q .put-byte2 .ensures) (omega (arith, s .pre, f .kept, f .place)) in
+    let h = digits-put 2 (9 - s .args .count) (omega arith) (omega (arith, s .pre)) (d .put-digits .ensures) (omega (arith, s .pre, f .kept, f .place, g .kept, g .place)) in
+    rw (lt-ltb _ _ (i .if1 .taken)) (joined f (joined g h))
 
 put-byte-requires-3 : tie.Need-put-byte-requires-3
 put-byte-requires-3 c κs = search needs
@@ -43,7 +50,11 @@ returns-2 c =
     let q = d .before .before .before .before in
     let i = q .before .before in
     let p = i .before .before .before in
-    rw (le-ltb _ _ (i .if1 .left)) (joined (p .put-byte .ensures) (joined (q .put-byte3 .ensures) (d .put-digits2 .ensures)))
+    let s = p .before .before .before in
+    let f = puts (p .put-byte .ensures) (omega (arith, s .pre)) in
+    let g = puts (q .put-byte3 .ensures) (omega (arith, s .pre, f .kept, f .place)) in
+    let h = digits-put 2 (s .args .count - 9) (omega arith) (omega (arith, s .pre)) (d .put-digits2 .ensures) (omega (arith, s .pre, f .kept, f .place, g .kept, g .place)) in
+    rw (le-ltb _ _ (i .if1 .left)) (joined f (joined g h))
 
 pub put-power-spec : {M : Type 1} → statement M
 put-power-spec =

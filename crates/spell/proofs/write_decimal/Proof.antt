@@ -1,18 +1,20 @@
 -- A real written: refused where its size is too large or not short, else what is put in the scratch is the text that is placed.
-use mathlib.Core.Bool.{true, false}
-use mathlib.Core.Path.{_≡_, refl, sym, _∙_, ap, subst}
-use Prim.Native.Nat.{_^_, _≤_, _<_}
-use native.Mathlib.Omega.{arith}
-use borrow.Author.Needs.{needs}
-use borrow.Author.Tests.{lt-ltb, le-ltb, not-true, not-false}
-use lib.IntN.{ℤ, natAbs}
-use lib.ListN.{length, replicate}
+use mathlib.Core.Path.{_≡_, _∙_, ap, sym, subst, refl}
+use lib.IntN.{natAbs, ℤ}
 use mir.Facts.{toZ-ofZ}
+use Prim.Native.Nat.{_^_, _<_, _≤_}
+use native.Mathlib.Omega.{arith}
+use lib.ListN.{replicate, length}
+use borrow.Author.Needs.{needs}
+use borrow.Author.Tests.{le-ltb, lt-ltb, not-true, not-false}
+use mathlib.Core.Bool.{false, true}
 use Rattle.laws.specs.Digits.{short}
-use Rattle.spell.specs.Spell.{decimal, realText, realFits}
-use Rattle.spell.specs.Pieces.{Puts}
-use Rattle.spell.proofs.Pieces.{placed, front}
-use Rattle.spell.proofs.Texts.{minus-short, decimal-length, fits-is}
+use Rattle.numerals.specs.Pieces.{Puts}
+use Rattle.numerals.proofs.Numerals.{minus-short}
+use Rattle.numerals.proofs.Pieces.{front}
+use Rattle.spell.specs.Spell.{decimal, realFits, realText}
+use Rattle.spell.proofs.Texts.{decimal-length, fits-is}
+use Rattle.spell.proofs.Pieces.{placed}
 use Rattle.spell.proofs.write_decimal.Statement.{statement}
 use Rattle.spell.proofs.write_decimal.Tie as tie
 

@@ -1,15 +1,17 @@
 -- An integer written: what is put in the scratch is the whole text, and that is what is placed.
 use mathlib.Core.Path.{subst}
-use native.Mathlib.Omega.{arith}
-use borrow.Author.Needs.{needs}
 use lib.IntN.{ℤ, natAbs}
 use lib.ListN.{replicate}
 use mir.Facts.{toZ-ofZ}
+use borrow.Author.Needs.{needs}
+use native.Mathlib.Omega.{arith}
+use Rattle.numerals.specs.Pieces.{Puts}
+use Rattle.numerals.proofs.Counts.{count-most}
+use Rattle.numerals.proofs.Numerals.{minus-short}
+use Rattle.numerals.proofs.Pieces.{front}
 use Rattle.spell.specs.Spell.{whole, integerText, integerFits}
-use Rattle.spell.specs.Pieces.{Puts}
-use Rattle.spell.proofs.Counts.{count-most}
-use Rattle.spell.proofs.Pieces.{placed, front}
-use Rattle.spell.proofs.Texts.{minus-short, whole-length}
+use Rattle.spell.proofs.Texts.{whole-length}
+use Rattle.spell.proofs.Pieces.{placed}
 use Rattle.spell.proofs.write_integer.Statement.{statement}
 use Rattle.spell.proofs.write_integer.Tie as tie
 
@@ -38,7 +40,7 @@ part-place-end : tie.Need-part-place-end
 part-place-end c =
     let p = c .before .before in
     let z = start p .args .value in
-    let k = count-most 1 19 (natAbs z) (omega arith) in
+    let k = count-most 1 20 (natAbs z) (omega arith) in
     omega (arith, built p .kept, built p .place, whole-length z, minus-short z)
 
 place-requires : tie.Need-place-requires

@@ -1,21 +1,22 @@
--- Units, a point and two decimals: four pieces joined.
-use Rattle.lines.specs.Lines.{units}
-use Rattle.lines.proofs.Putting.{then, one}
+-- Units, a point and two decimals: three pieces joined.
 use borrow.Author.Needs.{needs}
+use Prim.Native.Nat.{_/_, _%_}
+use native.Mathlib.Omega.{arith}
+use Rattle.numerals.proofs.Numerals.{numeral-short, digits-given}
+use Rattle.numerals.proofs.Spelling.{spell-length}
+use Rattle.lines.specs.Lines.{units}
+use Rattle.lines.proofs.Putting.{put, within}
 use Rattle.lines.proofs.pieces.put_hundredths.Statement.{statement}
 use Rattle.lines.proofs.pieces.put_hundredths.Tie as tie
 
-put-digits-requires : tie.Need-put-digits-requires
-put-digits-requires c κs = search needs
+put-number-requires : tie.Need-put-number-requires
+put-number-requires c κs = tt
 
 put-byte-requires : tie.Need-put-byte-requires
-put-byte-requires c κs = search needs
+put-byte-requires c κs = tt
 
-put-digit-requires : tie.Need-put-digit-requires
-put-digit-requires c κs = search needs
-
-put-digit-requires-2 : tie.Need-put-digit-requires-2
-put-digit-requires-2 c κs = search needs
+put-digits-requires : tie.Need-put-digits-requires
+put-digits-requires c κs = tt
 
 same-length : tie.Need-same-length
 same-length c = search needs
@@ -24,19 +25,15 @@ returns : tie.Need-returns
 unfolding units
 returns c =
     let last = c .before .before in
-    let tenths = last .before .before .before .before in
-    let point = tenths .before .before .before .before in
+    let point = last .before .before .before .before in
     let whole = point .before .before .before .before in
-    then (whole .put-digits .ensures)
-    (then (one (point .put-byte .ensures)) (then (one (tenths .put-digit .ensures)) (one (last .put-digit2 .ensures))))
+    let n = whole .before .before .before .args .n in
+    put 20 (whole .put-number .ensures) (numeral-short (n / 100))
+    (put 1 (point .put-byte .ensures) (omega arith)
+    (within 2 (digits-given 2 (n % 100) (omega arith) (omega arith) (last .put-digits .ensures)) (omega (arith, spell-length 2 (n % 100)))))
+    (omega arith)
 
 pub put-hundredths-spec : {M : Type 1} → statement M
 put-hundredths-spec =
     tie.close
-    (tie.spec
-    put-digits-requires
-    put-byte-requires
-    put-digit-requires
-    put-digit-requires-2
-    same-length
-    returns)
+    (tie.spec put-number-requires put-byte-requires put-digits-requires same-length returns)

@@ -1,12 +1,12 @@
 -- Record C, taken or refused.
-use mathlib.Core.Bool.{true, false}
-use mathlib.Core.Path.{_≡_, sym, _∙_, ap}
-use borrow.Author.Tests.{eq-eqb, ne-eqb}
-use lib.Dec.{eqb}
-use Rattle.profile.specs.RecordC.{recordC}
-use Rattle.sheet.specs.declared.record_a.Fault.{Fault}
-use Rattle.load.specs.declared.steps.Step.the-variants.{Wrong, Fills}
 use borrow.Author.Needs.{needs}
+use mathlib.Core.Bool.{false, true}
+use mathlib.Core.Path.{_≡_, sym, _∙_, ap}
+use borrow.Author.Tests.{ne-eqb, eq-eqb}
+use lib.Dec.{eqb}
+use Rattle.field.specs.declared.Fault.{Fault}
+use Rattle.profile.specs.RecordC.{recordC}
+use Rattle.load.specs.declared.steps.Step.the-variants.{Wrong, Fills}
 use Rattle.load.proofs.blocks.finish_sheet.Statement.{statement}
 use Rattle.load.proofs.blocks.finish_sheet.Tie as tie
 

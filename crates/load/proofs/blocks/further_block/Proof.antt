@@ -1,74 +1,73 @@
 -- A further block: scanned, and filled where it has no fault; Judged has why.
-use mathlib.Core.Path.{subst₂}
 use native.Mathlib.Omega.{arith}
-use lib.Dec.{lit≤}
-use Rattle.laws.proofs.Signs.{back}
-use Rattle.load.specs.Deliver.{zOf, further}
-use Rattle.load.specs.Steps.{BlockScanned, Placing}
-use Rattle.load.proofs.Judged.{Scannable, refused-step, fault-refused, fault-none, scanned-filling, filled-step}
 use borrow.Author.Needs.{needs}
+use lib.ListN.{length}
+use Rattle.laws.proofs.Signs.{back}
+use Rattle.frame.specs.Frame.{zOf}
+use Rattle.posts.specs.Steps.{BlockScanned}
+use Rattle.delivery.specs.Deliver.{further}
+use Rattle.posts.proofs.Asking.{asks, scan-known}
+use Rattle.load.specs.Steps.{Placing}
+use Rattle.load.proofs.Judged.{Scannable, refused-step, fault-refused, scanned-filling, fault-none, filled-step}
 use Rattle.load.proofs.blocks.further_block.Statement.{statement}
 use Rattle.load.proofs.blocks.further_block.Tie as tie
 
-sub-lesser-of : tie.Need-sub-lesser-of
-sub-lesser-of c =
-    let o = c .before .before .before .pre in
+sub-fewer-of : tie.Need-sub-fewer-of
+sub-fewer-of c =
+    let o = c .before .before .before .before .pre in
     omega (arith, o .ready .profile-is (o .busy-is) .read-below)
 
-lesser-of-requires : tie.Need-lesser-of-requires
-lesser-of-requires c κs = search needs
+fewer-of-requires : tie.Need-fewer-of-requires
+fewer-of-requires c κs = search needs
 
 z-of-requires : tie.Need-z-of-requires
 z-of-requires c κs = search needs
 
 scan-block-requires : tie.Need-scan-block-requires
-scan-block-requires c κs =
-    let o = c .before .before .before .before .before .before .before .pre in
-    let f = o .ready .profile-is (o .busy-is) in
-    let n = c .before .before .before .lesser-of .ensures in
-    record {
-      long = o .long;
-      byte-from = lit≤ tt;
-      inside = omega (arith, n);
-      room = omega (arith, n, o .room);
-      z-most = rw (c .before .before .z-of .ensures) (o .ready .z-most);
-      datum-most = rw (back (c .before .before .before .before .before .before .before .args .s .profile .datum) (c .struct-told .given .1 .1 .0 .1)) (f .datum-most);
-      few = lit≤ tt;
-    }
+scan-block-requires c κs = search needs
 
 -- the block's scan, of the session's own numbers
 scanned : (s : tie.After-scan-block)
-    → BlockScanned (s .before .before .before .before .before .before .before .before .args .block .now) 1 (s .before .before .before .before .lesser-of .result) (zOf (s .before .before .before .before .before .before .before .before .args .s .header)) (s .before .before .before .before .before .before .before .before .args .s .profile .datum)
-    (s .before .before .before .before .before .before .before .before .args .scratch .now)
+    → BlockScanned (s .before .before .before .before .before .before .before .before .before .args .block .now) 1 (s .before .before .before .before .fewer-of .result) (zOf (s .before .before .before .before .before .before .before .before .before .args .s .header)) (s .before .before .before .before .before .before .before .before .before .args .s .profile .datum)
+    (s .before .before .before .before .before .before .before .before .before .args .scratch .now)
     (s .scan-block .last .1 .1 .1 .1 .1 .0)
     (s .scan-block .result)
 scanned s =
-    let a = s .before .before .before .before .before .before .before .before .args in
-    subst₂
-    (λ z d.
-    BlockScanned (a .block .now) 1 (s .before .before .before .before .lesser-of .result) z d (a .scratch .now) (s .scan-block .last .1 .1 .1 .1 .1 .0) (s .scan-block .result))
+    let o = s .before .before .before .before .before .before .before .before .before .pre in
+    let a = s .before .before .before .before .before .before .before .before .before .args in
+    let l = s .before .before .before .before in
+    let n = l .fewer-of .ensures in
+    let f = o .ready .profile-is (o .busy-is) in
+    scan-known (a .block .now) 1 (l .fewer-of .result) (zOf (a .s .header)) (a .s .profile .datum) (a .scratch .now)
+    (s .scan-block .last .1 .1 .1 .1 .1 .0)
+    (s .scan-block .result)
+    _
+    _
     (s .before .before .before .z-of .ensures)
     (back (a .s .profile .datum) (s .before .struct-told .given .1 .1 .0 .1))
+    (asks (a .block .now) 1 (l .fewer-of .result) (zOf (a .s .header)) (a .s .profile .datum) (length (a .scratch .now)) (o .long) (omega arith)
+    (omega (arith, n))
+    (omega (arith, n, o .room))
+    (o .ready .z-most)
+    (f .datum-most))
     (s .scan-block .ensures)
 
-scannable : (s : tie.After-scan-block) → Scannable (s .before .before .before .before .before .before .before .before .args .s) (s .before .before .before .before .before .before .before .before .args .s .profile) (s .before .before .before .before .lesser-of .result)
+scannable : (s : tie.After-scan-block) → Scannable (s .before .before .before .before .before .before .before .before .before .args .s) (s .before .before .before .before .before .before .before .before .before .args .s .profile) (s .before .before .before .before .fewer-of .result)
 scannable s =
-    let o = s .before .before .before .before .before .before .before .before .pre in
+    let o = s .before .before .before .before .before .before .before .before .before .pre in
     let f = o .ready .profile-is (o .busy-is) in
     record {
       ready = o .ready;
       datum-most = f .datum-most;
-      read-most = omega (arith, s .before .before .before .before .lesser-of .ensures, f .read-below);
+      read-most = omega (arith, s .before .before .before .before .fewer-of .ensures, f .read-below);
       posts-most = f .posts-most;
       filled-most = f .filled-most;
-      profile-low = f .low-size;
-      profile-high = f .high-size;
     }
 
 placing : (s : tie.After-scan-block)
-    → Placing (s .before .before .before .before .before .before .before .before .args .s) (s .before .before .before .before .before .before .before .before .args .number) (s .before .before .before .before .before .before .before .before .args .s .column) (s .before .before .before .before .before .before .before .before .args .s .profile)
+    → Placing (s .before .before .before .before .before .before .before .before .before .args .s) (s .before .before .before .before .before .before .before .before .before .args .number) (s .before .before .before .before .before .before .before .before .before .args .s .column) (s .before .before .before .before .before .before .before .before .before .args .s .profile)
 placing s =
-    let o = s .before .before .before .before .before .before .before .before .pre in
+    let o = s .before .before .before .before .before .before .before .before .before .pre in
     let f = o .ready .profile-is (o .busy-is) in
     record {
       taken-is = o .taken-is;
@@ -84,8 +83,8 @@ same-length c = search needs
 returns : tie.Need-returns
 returns c =
     let s = c .before .before .before in
-    let a = s .before .before .before .before .before .before .before .before .args in
-    let n = s .before .before .before .before .lesser-of .ensures in
+    let a = s .before .before .before .before .before .before .before .before .before .args in
+    let n = s .before .before .before .before .fewer-of .ensures in
     refused-step (a .s) (further (a .s) (a .number) (a .block .now)) (a .scratch .now) (s .scan-block .last .1 .1 .1 .1 .1 .0) (s .scan-block .result .kind) (a .number) (s .scan-block .result .byte)
     (scanned s .kept)
     (rw (← n) (fault-refused _ (a .number) _ (s .scan-block .result .kind) (s .scan-block .result .byte) (scanned s .fault-is) (c .if1 .taken)))
@@ -93,8 +92,8 @@ returns c =
 fill-step-requires : tie.Need-fill-step-requires
 fill-step-requires c κs =
     let s = c .before .before .before .before in
-    let a = s .before .before .before .before .before .before .before .before .args in (
-      scanned-filling (a .s) (a .s .profile) 1 (s .before .before .before .before .lesser-of .result) (a .block .now) (a .scratch .now) (s .scan-block .last .1 .1 .1 .1 .1 .0) (s .scan-block .result)
+    let a = s .before .before .before .before .before .before .before .before .before .args in (
+      scanned-filling (a .s) (a .s .profile) 1 (s .before .before .before .before .fewer-of .result) (a .block .now) (a .scratch .now) (s .scan-block .last .1 .1 .1 .1 .1 .0) (s .scan-block .result)
           (scanned s)
           (c .before .if1 .left)
           (scannable s),
@@ -107,27 +106,27 @@ same-length-2 c = search needs
 returns-2 : tie.Need-returns-2
 returns-2 c =
     let s = c .before .before .before .before .before in
-    let a = s .before .before .before .before .before .before .before .before .args in
+    let a = s .before .before .before .before .before .before .before .before .before .args in
     let l = s .before .before .before .before in
-    filled-step (a .s) (a .s .profile) 1 (l .lesser-of .result) (a .block .now) (a .scratch .now) (s .scan-block .last .1 .1 .1 .1 .1 .0) (s .scan-block .result)
+    filled-step (a .s) (a .s .profile) 1 (l .fewer-of .result) (a .block .now) (a .scratch .now) (s .scan-block .last .1 .1 .1 .1 .1 .0) (s .scan-block .result)
     (scanned s)
     (c .before .before .if1 .left)
     (scannable s)
     (a .number)
     (a .s .column)
     (placing s)
-    (omega (arith, l .lesser-of .ensures))
+    (omega (arith, l .fewer-of .ensures))
     (c .fill-step .result)
     (c .fill-step .ensures)
     (further (a .s) (a .number) (a .block .now))
-    (rw (← (l .lesser-of .ensures)) (fault-none _ (a .number) _ (s .scan-block .result .kind) (s .scan-block .result .byte) (scanned s .fault-is) (c .before .before .if1 .left)))
+    (rw (← (l .fewer-of .ensures)) (fault-none _ (a .number) _ (s .scan-block .result .kind) (s .scan-block .result .byte) (scanned s .fault-is) (c .before .before .if1 .left)))
 
 pub further-block-spec : {M : Type 1} → statement M
 further-block-spec =
     tie.close
     (tie.spec
-    sub-lesser-of
-    lesser-of-requires
+    sub-fewer-of
+    fewer-of-requires
     z-of-requires
     scan-block-requires
     same-length

@@ -1,10 +1,10 @@
 -- An open profile goes on, the next one opens, or record C ends the sheet.
 use mathlib.Core.Bool.{not}
-use mathlib.Core.Path.{sym, ap}
+use mathlib.Core.Path.{ap, sym}
 use native.Mathlib.Omega.{arith}
-use borrow.Author.Tests.{eq-eqb, ne-eqb, lt-ltb, le-ltb}
-use Rattle.load.proofs.Judged.{same-step, finish-stepped}
+use borrow.Author.Tests.{ne-eqb, eq-eqb, lt-ltb, le-ltb}
 use borrow.Author.Needs.{needs}
+use Rattle.load.proofs.Judged.{same-step, finish-stepped}
 use Rattle.load.proofs.blocks.later_block.Statement.{statement}
 use Rattle.load.proofs.blocks.later_block.Tie as tie
 

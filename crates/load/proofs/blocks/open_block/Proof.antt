@@ -1,17 +1,21 @@
 -- A first block: scanned, then placed and filled; Placed has why.
-use mathlib.Core.Path.{_≡_, refl, subst, subst₂}
+use borrow.Author.Needs.{needs}
+use mathlib.Core.Path.{subst₂, _≡_, refl, subst}
 use native.Mathlib.Omega.{arith}
 use Rattle.laws.proofs.Signs.{back}
-use Rattle.load.specs.Deliver.{zOf, openingWith}
-use Rattle.load.specs.Steps.{BlockScanned, Placeable, Stepped}
-use Rattle.load.proofs.Judged.{refused-step, fault-refused, fault-none, scanned-tally}
+use Rattle.frame.specs.Frame.{zOf}
+use Rattle.posts.specs.Steps.{BlockScanned}
+use Rattle.delivery.specs.Deliver.{openingWith}
+use lib.ListN.{length}
+use Rattle.posts.proofs.Asking.{asks, scan-known}
+use Rattle.load.specs.Steps.{Placeable, Stepped}
+use Rattle.load.proofs.Judged.{scanned-tally, refused-step, fault-refused, fault-none}
 use Rattle.load.proofs.Placed.{placed-step}
-use borrow.Author.Needs.{needs}
 use Rattle.load.proofs.blocks.open_block.Statement.{statement}
 use Rattle.load.proofs.blocks.open_block.Tie as tie
 
-lesser-of-requires : tie.Need-lesser-of-requires
-lesser-of-requires c κs = search needs
+fewer-of-requires : tie.Need-fewer-of-requires
+fewer-of-requires c κs = search needs
 
 z-of-requires : tie.Need-z-of-requires
 z-of-requires c κs = search needs
@@ -20,26 +24,36 @@ scan-block-requires : tie.Need-scan-block-requires
 scan-block-requires c κs = search needs
 
 scanned : (s : tie.After-scan-block)
-    → BlockScanned (s .before .before .before .before .before .before .args .block .now) 145 (s .before .before .before .before .lesser-of .result) (zOf (s .before .before .before .before .before .before .args .s .header)) (s .before .before .before .before .before .before .args .head .datum)
-    (s .before .before .before .before .before .before .args .scratch .now)
+    → BlockScanned (s .before .before .before .before .before .before .before .args .block .now) 145 (s .before .before .before .before .fewer-of .result) (zOf (s .before .before .before .before .before .before .before .args .s .header)) (s .before .before .before .before .before .before .before .args .head .datum)
+    (s .before .before .before .before .before .before .before .args .scratch .now)
     (s .scan-block .last .1 .1 .1 .1 .1 .0)
     (s .scan-block .result)
 scanned s =
-    let a = s .before .before .before .before .before .before .args in
-    subst₂
-    (λ z d.
-    BlockScanned (a .block .now) 145 (s .before .before .before .before .lesser-of .result) z d (a .scratch .now) (s .scan-block .last .1 .1 .1 .1 .1 .0) (s .scan-block .result))
+    let o = s .before .before .before .before .before .before .before .pre in
+    let a = s .before .before .before .before .before .before .before .args in
+    let l = s .before .before .before .before in
+    let n = l .fewer-of .ensures in
+    scan-known (a .block .now) 145 (l .fewer-of .result) (zOf (a .s .header)) (a .head .datum) (a .scratch .now)
+    (s .scan-block .last .1 .1 .1 .1 .1 .0)
+    (s .scan-block .result)
+    _
+    _
     (s .before .before .before .z-of .ensures)
     (back (a .head .datum) (s .before .struct-told .given .1 .1 .1 .0 .1))
+    (asks (a .block .now) 145 (l .fewer-of .result) (zOf (a .s .header)) (a .head .datum) (length (a .scratch .now)) (o .long) (omega arith)
+    (omega (arith, n))
+    (omega (arith, n, o .room))
+    (o .ready .z-most)
+    (o .datum-most))
     (s .scan-block .ensures)
 
 placeable : (s : tie.After-scan-block) → s .scan-block .result .kind ≡ 0
-    → Placeable (s .before .before .before .before .before .before .args .s) (s .before .before .before .before .before .before .args .number) (s .before .before .before .before .before .before .args .head) (s .before .before .before .before .lesser-of .result) (s .scan-block .result .tally)
+    → Placeable (s .before .before .before .before .before .before .before .args .s) (s .before .before .before .before .before .before .before .args .number) (s .before .before .before .before .before .before .before .args .head) (s .before .before .before .before .fewer-of .result) (s .scan-block .result .tally)
 placeable s e =
-    let o = s .before .before .before .before .before .before .pre in
-    let a = s .before .before .before .before .before .before .args in
-    let n = s .before .before .before .before .lesser-of .ensures in
-    let f = scanned-tally (a .s) (a .head .datum) 145 (s .before .before .before .before .lesser-of .result) (a .block .now) (a .scratch .now) (s .scan-block .last .1 .1 .1 .1 .1 .0) (s .scan-block .result) (scanned s) e (o .ready) (o .datum-most) in
+    let o = s .before .before .before .before .before .before .before .pre in
+    let a = s .before .before .before .before .before .before .before .args in
+    let n = s .before .before .before .before .fewer-of .ensures in
+    let f = scanned-tally (a .s) (a .head .datum) 145 (s .before .before .before .before .fewer-of .result) (a .block .now) (a .scratch .now) (s .scan-block .last .1 .1 .1 .1 .1 .0) (s .scan-block .result) (scanned s) e (o .ready) (o .datum-most) in
     record {
       ready = o .ready;
       idle = o .idle;
@@ -48,8 +62,6 @@ placeable s e =
       posts-most = o .posts-most;
       within = omega (arith, n);
       count = f .count;
-      low-size = f .low-size;
-      high-size = f .high-size;
     }
 
 same-length : tie.Need-same-length
@@ -58,8 +70,8 @@ same-length c = search needs
 returns : tie.Need-returns
 returns c =
     let s = c .before .before .before in
-    let a = s .before .before .before .before .before .before .args in
-    let n = s .before .before .before .before .lesser-of .ensures in
+    let a = s .before .before .before .before .before .before .before .args in
+    let n = s .before .before .before .before .fewer-of .ensures in
     refused-step (a .s) (openingWith (a .s) (a .number) (a .block .now) (a .head)) (a .scratch .now) (s .scan-block .last .1 .1 .1 .1 .1 .0) (s .scan-block .result .kind) (a .number) (s .scan-block .result .byte)
     (scanned s .kept)
     (rw (← n) (fault-refused _ (a .number) _ (s .scan-block .result .kind) (s .scan-block .result .byte) (scanned s .fault-is) (c .if1 .taken)))
@@ -73,16 +85,16 @@ same-length-2 c = search needs
 returns-2 : tie.Need-returns-2
 returns-2 c =
     let s = c .before .before .before .before .before in
-    let a = s .before .before .before .before .before .before .args in
+    let a = s .before .before .before .before .before .before .before .args in
     let l = s .before .before .before .before in
     subst (λ v. Stepped (a .s) v (a .scratch .now) (s .scan-block .last .1 .1 .1 .1 .1 .0) (c .place-profile .result))
-    (rw (← (l .lesser-of .ensures)) (fault-none _ (a .number) _ (s .scan-block .result .kind) (s .scan-block .result .byte) (scanned s .fault-is) (c .before .before .if1 .left)))
-    (placed-step (a .s) (a .number) (a .head) (l .lesser-of .result) (s .scan-block .result .tally) (placeable s (c .before .before .if1 .left)) 145 (a .block .now) (a .scratch .now) (s .scan-block .last .1 .1 .1 .1 .1 .0) (s .scan-block .result)
+    (rw (← (l .fewer-of .ensures)) (fault-none _ (a .number) _ (s .scan-block .result .kind) (s .scan-block .result .byte) (scanned s .fault-is) (c .before .before .if1 .left)))
+    (placed-step (a .s) (a .number) (a .head) (l .fewer-of .result) (s .scan-block .result .tally) (placeable s (c .before .before .if1 .left)) 145 (a .block .now) (a .scratch .now) (s .scan-block .last .1 .1 .1 .1 .1 .0) (s .scan-block .result)
     refl
     (scanned s)
     (c .before .before .if1 .left)
-    (s .before .before .before .before .before .before .pre .datum-most)
-    (omega (arith, l .lesser-of .ensures))
+    (s .before .before .before .before .before .before .before .pre .datum-most)
+    (omega (arith, l .fewer-of .ensures))
     (c .place-profile .result)
     (c .place-profile .ensures))
 
@@ -90,7 +102,7 @@ pub open-block-spec : {M : Type 1} → statement M
 open-block-spec =
     tie.close
     (tie.spec
-    lesser-of-requires
+    fewer-of-requires
     z-of-requires
     scan-block-requires
     same-length

@@ -1,10 +1,10 @@
 -- The head read, then its block.
-use mathlib.Core.Path.{refl, sym, _∙_, ap}
+use borrow.Author.Needs.{needs}
+use mathlib.Core.Path.{sym, _∙_, ap, refl}
 use Prim.Native.Nat.{_+_}
 use Rattle.profile.proofs.RecordLaws.{head-bounds}
-use Rattle.load.specs.Deliver.{opening}
-use Rattle.load.proofs.Judged.{refused-step, same-step}
-use borrow.Author.Needs.{needs}
+use Rattle.delivery.specs.Deliver.{opening}
+use Rattle.load.proofs.Judged.{same-step, refused-step}
 use Rattle.load.proofs.blocks.start_profile.Statement.{statement}
 use Rattle.load.proofs.blocks.start_profile.Tie as tie
 

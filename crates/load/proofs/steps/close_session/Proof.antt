@@ -1,6 +1,6 @@
 -- A profile closed: one more, and none open.
-use Prim.Native.Nat.{_+_}
 use borrow.Author.Needs.{needs}
+use Prim.Native.Nat.{_+_}
 use Rattle.laws.proofs.Signs.{back}
 use Rattle.load.proofs.steps.close_session.Statement.{statement}
 use Rattle.load.proofs.steps.close_session.Tie as tie

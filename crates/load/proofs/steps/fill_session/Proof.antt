@@ -1,11 +1,11 @@
 -- The session with a block more.
+use borrow.Author.Needs.{needs}
+use native.Mathlib.Omega.{arith}
 use mathlib.Core.Path.{_∙_, ap}
 use Prim.Native.Nat.{_+_}
 use Rattle.laws.proofs.Signs.{back}
-use Rattle.load.specs.Steps.{merged}
-use Rattle.load.specs.declared.posts.Tally.{Tally}
-use native.Mathlib.Omega.{arith}
-use borrow.Author.Needs.{needs}
+use Rattle.ground.specs.Posts.{merged}
+use Rattle.ground.specs.declared.Tally.{Tally}
 use Rattle.load.proofs.steps.fill_session.Statement.{statement}
 use Rattle.load.proofs.steps.fill_session.Tie as tie
 

@@ -1,13 +1,13 @@
 -- A good block: filled, and closed where its last post is read.
-use mathlib.Core.Path.{sym, _∙_, ap, ap₂, subst⁻¹}
+use borrow.Author.Needs.{needs}
+use mathlib.Core.Path.{sym, _∙_, ap, ap₂}
+use borrow.Author.Tests.{lt-ltb, le-ltb}
 use Prim.Native.Nat.{_-_}
 use native.Mathlib.Omega.{arith}
-use borrow.Author.Tests.{lt-ltb, le-ltb}
-use Rattle.load.specs.Deliver.{closeFault, closedSession, nextCell}
-use Rattle.load.specs.Steps.{Extremes, filledWith}
+use Rattle.delivery.specs.Deliver.{closeFault, nextCell, closedSession}
 use Rattle.load.specs.declared.steps.Step.the-variants.{Fills}
-use Rattle.load.proofs.Merging.{filled-extremes, close-wrong, close-good}
-use borrow.Author.Needs.{needs}
+use Rattle.load.specs.Steps.{filledWith}
+use Rattle.load.proofs.Merging.{close-wrong, close-good}
 use Rattle.load.proofs.steps.fill_step.Statement.{statement}
 use Rattle.load.proofs.steps.fill_step.Tie as tie
 
@@ -33,11 +33,7 @@ sub-close-fault : tie.Need-sub-close-fault
 sub-close-fault c = search needs
 
 close-fault-requires : tie.Need-close-fault-requires
-close-fault-requires c κs =
-    let f = c .before .before .before .before .before in
-    let a = f .before in
-    subst⁻¹ Extremes (f .fill-session .ensures)
-    (filled-extremes (a .args .s) (a .args .number) (a .args .column) (a .args .p) (a .args .n) (a .args .u) (a .pre .0) (a .pre .1))
+close-fault-requires c κs = search needs
 
 returns-2 : tie.Need-returns-2
 returns-2 c =

@@ -1,11 +1,11 @@
 -- Two tallies, by which of them counts any.
+use borrow.Author.Tests.{eq-eqb, ne-eqb}
 use mathlib.Core.Path.{_≡_, sym, _∙_, ap₂}
 use Prim.Native.Nat.{_+_}
 use native.Mathlib.Omega.{arith}
-use borrow.Author.Tests.{eq-eqb, ne-eqb}
-use Rattle.laws.proofs.Signs.{back}
-use Rattle.sheet.specs.RecordA.{lesser, greater}
 use borrow.Author.Needs.{needs}
+use Rattle.laws.specs.Sign.{lesser, greater}
+use Rattle.laws.proofs.Signs.{back}
 use Rattle.load.proofs.steps.merge.Statement.{statement}
 use Rattle.load.proofs.steps.merge.Tie as tie
 

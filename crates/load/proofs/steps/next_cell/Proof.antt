@@ -1,10 +1,10 @@
 -- Column times rows, row and posts read: a cell of at most 2048 times 2048.
-use mathlib.Core.Path.{ap}
+use borrow.Author.Needs.{needs}
 use Prim.Native.Nat.{_+_, _*_, _≤_}
 use native.Mathlib.Nat.{mul-le-mul}
 use native.Mathlib.Omega.{arith}
-use Rattle.sheet.specs.declared.lattice.Lattice.{Lattice}
-use borrow.Author.Needs.{needs}
+use mathlib.Core.Path.{ap}
+use Rattle.lattice.specs.declared.Lattice.{Lattice}
 use Rattle.load.proofs.steps.next_cell.Statement.{statement}
 use Rattle.load.proofs.steps.next_cell.Tie as tie
 

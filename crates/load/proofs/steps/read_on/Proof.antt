@@ -1,10 +1,10 @@
 -- The profile with its tally merged.
+use borrow.Author.Needs.{needs}
 use mathlib.Core.Path.{_∙_, ap}
 use Prim.Native.Nat.{_+_}
 use Rattle.laws.proofs.Signs.{back}
-use Rattle.load.specs.Steps.{merged}
-use Rattle.load.specs.declared.posts.Tally.{Tally}
-use borrow.Author.Needs.{needs}
+use Rattle.ground.specs.Posts.{merged}
+use Rattle.ground.specs.declared.Tally.{Tally}
 use Rattle.load.proofs.steps.read_on.Statement.{statement}
 use Rattle.load.proofs.steps.read_on.Tie as tie
 

@@ -1,15 +1,15 @@
 -- A mantissa's digits kept in 64 bits: the loop keeps `Keeping`, whose laws are in Runs.
-use Prim.Native.Nat.{_+_, _-_, _≤_}
+use Prim.Native.Nat.{_-_, _≤_, _+_}
+use lib.ListN.{length, getD}
 use mathlib.Core.Bool.{true, false}
 use mathlib.Core.Path.{_≡_, sym, _∙_, subst⁻¹}
+use borrow.Author.Tests.{not-false, not-true}
 use native.Mathlib.Omega.{arith}
 use borrow.Author.Needs.{needs}
-use borrow.Author.Tests.{not-true, not-false}
-use lib.ListN.{length, getD}
 use Rattle.number.specs.Bytes.{isDigit}
 use Rattle.number.specs.declared.decimal.Kept.{Kept}
-use Rattle.number.proofs.Places.{digits-stop, digits-end, digit-range}
-use Rattle.number.proofs.Runs.{Keeping, passing-stop, passing-end, keeping-start, keeping-turn, keeping-done}
+use Rattle.number.proofs.Runs.{Keeping, keeping-start, passing-stop, keeping-done, keeping-turn, passing-end}
+use Rattle.number.proofs.Places.{digit-range, digits-stop, digits-end}
 use Rattle.number.proofs.decimal.keep_digits.Statement.{statement}
 use Rattle.number.proofs.decimal.keep_digits.Tie as tie
 

@@ -1,4 +1,5 @@
 -- A mantissa: whole digits, a point if there is one, the digits of the fraction.
+use borrow.Author.Needs.{needs}
 use mathlib.Core.Path.{_≡_, sym, _∙_, ap, ap₂}
 use native.Mathlib.Omega.{arith}
 use lib.ListN.{length, drop, length-append}
@@ -6,7 +7,6 @@ use Rattle.number.specs.Bytes.{isPoint, isDigit, pastOne, pastAll, digit
 use Rattle.number.specs.Real.{fractionPart}
 use Rattle.number.specs.Steps.{none, keptAll}
 use Rattle.number.proofs.Runs.{run-length, kept-append}
-use borrow.Author.Needs.{needs}
 use Rattle.number.proofs.decimal.read_mantissa.Statement.{statement}
 use Rattle.number.proofs.decimal.read_mantissa.Tie as tie
 

@@ -1,15 +1,15 @@
 -- A power of ten: none, one of wrong form, or a letter, a sign and one or two digits. Powers has what each test decides.
+use mathlib.Core.Path.{sym, _∙_, _≡_}
+use borrow.Author.Needs.{needs}
+use borrow.Author.Tests.{not-true, not-false, lt-leb}
 use Prim.Native.Nat.{_-_}
 use mathlib.Core.Bool.{true}
 use mathlib.Core.Logic.{inl, inr}
-use mathlib.Core.Path.{_≡_, sym, _∙_}
 use native.Mathlib.Omega.{arith}
-use borrow.Author.Tests.{not-true, not-false, lt-leb}
 use lib.ListN.{getD}
 use Rattle.number.specs.Bytes.{isLetter}
-use Rattle.number.proofs.Places.{starts-here, starts-none}
+use Rattle.number.proofs.Places.{starts-none, starts-here}
 use Rattle.number.proofs.Powers.{power-none, power-wrong, power-good}
-use borrow.Author.Needs.{needs}
 use Rattle.number.proofs.decimal.read_power.Statement.{statement}
 use Rattle.number.proofs.decimal.read_power.Tie as tie
 

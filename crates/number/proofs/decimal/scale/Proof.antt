@@ -1,10 +1,10 @@
 -- A mantissa scaled: no digits that count, a power of ten behind them, or one below them.
-use Prim.Native.Nat.{_-_}
+use borrow.Author.Needs.{needs}
 use mathlib.Core.Path.{_≡_, sym, _∙_, ap}
 use native.Mathlib.Omega.{arith}
+use Prim.Native.Nat.{_-_}
 use Rattle.number.specs.Steps.{readingOf}
-use Rattle.number.proofs.Scale.{highOf, scaled-none, scaled-up, scaled-down, up-small, down-small}
-use borrow.Author.Needs.{needs}
+use Rattle.number.proofs.Scale.{scaled-none, highOf, scaled-up, up-small, scaled-down, down-small}
 use Rattle.number.proofs.decimal.scale.Statement.{statement}
 use Rattle.number.proofs.decimal.scale.Tie as tie
 

@@ -1,12 +1,12 @@
 -- Kept digits over a power of ten.
-use Prim.Native.Nat.{ℕ, _%_, _^_, _<_}
-use mathlib.Core.Path.{_≡_, subst, subst⁻¹}
-use native.Mathlib.Omega.{arith}
-use borrow.Author.Tests.{eq-eqb, ne-eqb}
-use Rattle.laws.proofs.Tens.{ten-pos}
-use Rattle.number.proofs.Tens.{ten-is}
-use Rattle.number.proofs.Scale.{too-deep}
 use borrow.Author.Needs.{needs}
+use Prim.Native.Nat.{_%_, _^_, ℕ, _<_}
+use borrow.Author.Tests.{ne-eqb, eq-eqb}
+use mathlib.Core.Path.{_≡_, subst⁻¹, subst}
+use native.Mathlib.Omega.{arith}
+use Rattle.laws.proofs.Tens.{ten-pos}
+use Rattle.number.proofs.Scale.{too-deep}
+use Rattle.number.proofs.Tens.{ten-is}
 use Rattle.number.proofs.decimal.scale_down.Statement.{statement}
 use Rattle.number.proofs.decimal.scale_down.Tie as tie
 

@@ -1,13 +1,13 @@
 -- Kept digits with a power of ten behind them.
-use Prim.Native.Nat.{ℕ, _*_, _-_, _^_, _≤_, _<_}
+use borrow.Author.Tests.{le-leb, lt-leb}
+use borrow.Author.Needs.{needs}
+use Prim.Native.Nat.{_-_, _^_, ℕ, _≤_, _*_, _<_}
 use mathlib.Core.Path.{_≡_, subst, subst⁻¹}
 use native.Mathlib.Omega.{arith}
-use borrow.Author.Tests.{le-leb, lt-leb}
 use mir.Syntax.{w64}
 use mir.Val.{Fits}
-use Rattle.number.proofs.Tens.{ten-is}
 use Rattle.number.proofs.Scale.{steep, reaches, stays}
-use borrow.Author.Needs.{needs}
+use Rattle.number.proofs.Tens.{ten-is}
 use Rattle.number.proofs.decimal.scale_up.Statement.{statement}
 use Rattle.number.proofs.decimal.scale_up.Tie as tie
 

@@ -2,7 +2,7 @@
 use borrow.Author.Needs.{needs}
 use native.Mathlib.Omega.{arith}
 use Rattle.number.specs.Bytes.{isMinus}
-use Rattle.number.proofs.Places.{starts-here, starts-none}
+use Rattle.number.proofs.Places.{starts-none, starts-here}
 use Rattle.number.proofs.walk.minus_at.Statement.{statement}
 use Rattle.number.proofs.walk.minus_at.Tie as tie
 

@@ -1,11 +1,11 @@
 -- Past the blanks: the invariant is that what is left to pass is what there was to pass at the start.
 use Prim.Native.Nat.{_≤_, _-_}
 use mathlib.Core.Path.{_≡_, refl, _∙_}
+use lib.ListN.{length, drop}
 use native.Mathlib.Omega.{arith}
 use borrow.Author.Tests.{ne-eqb, eq-eqb}
-use lib.ListN.{length, drop}
 use Rattle.number.specs.Bytes.{isBlank, pastAll}
-use Rattle.number.proofs.Places.{all-turn, all-stop, all-end}
+use Rattle.number.proofs.Places.{all-stop, all-turn, all-end}
 use Rattle.number.proofs.walk.past_blanks.Statement.{statement}
 use Rattle.number.proofs.walk.past_blanks.Tie as tie
 

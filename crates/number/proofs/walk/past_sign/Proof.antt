@@ -3,7 +3,7 @@ use borrow.Author.Needs.{needs}
 use borrow.Author.Tests.{eq-eqb, ne-eqb}
 use native.Mathlib.Omega.{arith}
 use Rattle.number.specs.Bytes.{isSign}
-use Rattle.number.proofs.Places.{one-taken, one-left, one-none}
+use Rattle.number.proofs.Places.{one-none, one-taken, one-left}
 use Rattle.number.proofs.walk.past_sign.Statement.{statement}
 use Rattle.number.proofs.walk.past_sign.Tie as tie
 

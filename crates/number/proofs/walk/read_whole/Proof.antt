@@ -1,14 +1,14 @@
 -- Digits and their number: the loop keeps `Spelling`, whose laws are in Runs.
 use Prim.Native.Nat.{_-_, _<_, _≤_, _^_}
+use lib.ListN.{length, getD}
 use mathlib.Core.Bool.{true, false}
 use mathlib.Core.Path.{_≡_, sym, _∙_}
+use borrow.Author.Tests.{not-false, not-true}
 use native.Mathlib.Omega.{arith}
 use borrow.Author.Needs.{needs}
-use borrow.Author.Tests.{not-true, not-false}
-use lib.ListN.{length, getD}
 use Rattle.number.specs.Bytes.{isDigit}
-use Rattle.number.proofs.Places.{digits-stop, digits-end, digit-range}
-use Rattle.number.proofs.Runs.{Spelling, passing-stop, passing-end, spelling-start, spelling-small, spelling-turn, spelling-done}
+use Rattle.number.proofs.Runs.{Spelling, spelling-small, spelling-start, passing-stop, spelling-done, spelling-turn, passing-end}
+use Rattle.number.proofs.Places.{digit-range, digits-stop, digits-end}
 use Rattle.number.proofs.walk.read_whole.Statement.{statement}
 use Rattle.number.proofs.walk.read_whole.Tie as tie
 

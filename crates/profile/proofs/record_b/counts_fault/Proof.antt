@@ -1,9 +1,8 @@
 -- The faults of the four integers, the last first.
+use borrow.Author.Needs.{needs}
 use mathlib.Core.Path.{_∙_, ap, ap₂}
 use Rattle.number.specs.Integer.{integer}
-use Rattle.sheet.specs.RecordA.{ranged, stretch}
-use Rattle.profile.specs.Steps.{faultOr}
-use borrow.Author.Needs.{needs}
+use Rattle.field.specs.Field.{ranged, stretch, faultOr}
 use Rattle.profile.proofs.record_b.counts_fault.Statement.{statement}
 use Rattle.profile.proofs.record_b.counts_fault.Tie as tie
 

@@ -1,10 +1,10 @@
 -- The head from what was read, field by field.
+use borrow.Author.Needs.{needs}
 use mathlib.Core.Path.{_∙_, ap}
 use mir.Facts.{toZ-ofZ}
 use mir.Syntax.{w64}
-use Rattle.sheet.specs.Lattice.{notNegative}
+use Rattle.laws.specs.Sign.{notNegative}
 use Rattle.profile.specs.RecordB.{hundredths}
-use borrow.Author.Needs.{needs}
 use Rattle.profile.proofs.record_b.head_from.Statement.{statement}
 use Rattle.profile.proofs.record_b.head_from.Tie as tie
 

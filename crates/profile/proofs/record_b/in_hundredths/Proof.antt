@@ -1,9 +1,9 @@
 -- The quotient toward zero is the datum in hundredths.
-use mathlib.Core.Path.{refl, _∙_}
 use lib.Dec.{lit<}
+use mir.Facts.{toZ-ofZ}
+use mathlib.Core.Path.{refl, _∙_}
 use lib.IntN.{pos}
 use lib.Signed.{quotZ}
-use mir.Facts.{toZ-ofZ}
 use Rattle.laws.proofs.Signs.{read-back}
 use Rattle.profile.proofs.Datum.{quotient-fits, quotient-is}
 use Rattle.profile.proofs.record_b.in_hundredths.Statement.{statement}

@@ -1,7 +1,7 @@
 -- The datum's tests; Datum has why.
-use mathlib.Core.Path.{sym}
 use lib.Dec.{lit<}
 use mir.Facts.{toZ-ofZ}
+use mathlib.Core.Path.{sym}
 use Rattle.profile.proofs.Datum.{quotient-fits, datum-broken, datum-low, datum-high}
 use Rattle.profile.proofs.record_b.is_datum.Statement.{statement}
 use Rattle.profile.proofs.record_b.is_datum.Tie as tie

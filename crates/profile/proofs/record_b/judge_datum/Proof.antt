@@ -1,10 +1,10 @@
 -- The kinds of the reading first, then the datum's own rule.
-use mathlib.Core.Path.{_≡_, sym, _∙_, ap}
-use borrow.Author.Tests.{eq-eqb, ne-eqb}
+use borrow.Author.Tests.{ne-eqb, eq-eqb}
+use borrow.Author.Needs.{needs}
+use mathlib.Core.Path.{_≡_, _∙_, ap, sym}
 use mir.Facts.{toZ-ofZ}
 use mir.Syntax.{w64}
 use Rattle.profile.specs.RecordB.{isDatum}
-use borrow.Author.Needs.{needs}
 use Rattle.profile.proofs.record_b.judge_datum.Statement.{statement}
 use Rattle.profile.proofs.record_b.judge_datum.Tie as tie
 

@@ -1,10 +1,11 @@
 -- The verdict: length, fields; Verdicts has why.
+use borrow.Author.Needs.{needs}
 use mathlib.Core.Path.{_≡_, _∙_, ap, ap₂}
-use Rattle.profile.specs.RecordB.{headFields, firstOf}
+use Rattle.field.specs.Field.{firstOf}
+use Rattle.profile.specs.RecordB.{headFields}
 use Rattle.profile.specs.Steps.{countsFault, realsFault, headFrom}
 use Rattle.profile.specs.declared.record_b.Headed.the-variants.{Profile}
 use Rattle.profile.proofs.Verdicts.{head-length, head-refused, head-good}
-use borrow.Author.Needs.{needs}
 use Rattle.profile.proofs.record_b.read_head.Statement.{statement}
 use Rattle.profile.proofs.record_b.read_head.Tie as tie
 

@@ -1,7 +1,7 @@
 -- The faults of the five reals, the last first.
-use mathlib.Core.Path.{_∙_, ap, ap₂}
-use Rattle.profile.specs.Steps.{faultOr}
 use borrow.Author.Needs.{needs}
+use mathlib.Core.Path.{_∙_, ap, ap₂}
+use Rattle.field.specs.Field.{faultOr}
 use Rattle.profile.proofs.record_b.reals_fault.Statement.{statement}
 use Rattle.profile.proofs.record_b.reals_fault.Tie as tie
 

@@ -1,11 +1,11 @@
 -- The verdict: length, fields, rest; Verdicts has why.
+use borrow.Author.Needs.{needs}
+use mathlib.Core.Path.{_≡_, _∙_, ap, sym}
 use mathlib.Core.Bool.{true, false}
-use mathlib.Core.Path.{_≡_, sym, _∙_, ap}
-use Rattle.profile.specs.RecordB.{firstOf}
+use Rattle.field.specs.Field.{firstOf}
 use Rattle.profile.specs.RecordC.{fieldsC}
 use Rattle.profile.specs.Steps.{halfFault}
 use Rattle.profile.proofs.Verdicts.{c-length, c-refused, c-rest}
-use borrow.Author.Needs.{needs}
 use Rattle.profile.proofs.record_c.check_record_c.Statement.{statement}
 use Rattle.profile.proofs.record_c.check_record_c.Tie as tie
 

@@ -1,8 +1,8 @@
 -- An error field of the block, under its half's code.
-use mathlib.Core.Path.{_∙_, ap}
-use Rattle.profile.specs.RecordC.{errorReading}
-use Rattle.profile.specs.Steps.{faultOr}
 use borrow.Author.Needs.{needs}
+use mathlib.Core.Path.{_∙_, ap}
+use Rattle.field.specs.Field.{faultOr}
+use Rattle.profile.specs.RecordC.{errorReading}
 use Rattle.profile.proofs.record_c.error_at.Statement.{statement}
 use Rattle.profile.proofs.record_c.error_at.Tie as tie
 

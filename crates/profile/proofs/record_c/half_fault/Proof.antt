@@ -1,14 +1,14 @@
 -- One half of record C, its last field first.
+use borrow.Author.Needs.{needs}
 use mathlib.Core.Path.{_∙_, ap, ap₂}
 use Prim.Native.Nat.{_+_}
 use mir.Facts.{toZ-ofZ}
 use mir.Syntax.{w64}
+use Rattle.laws.specs.Sign.{notNegative}
 use Rattle.number.specs.declared.Reading.{Reading}
 use Rattle.number.specs.Integer.{integer}
-use Rattle.sheet.specs.Lattice.{notNegative}
-use Rattle.sheet.specs.RecordA.{ranged, limits, stretch}
-use Rattle.profile.specs.Steps.{faultOr, errorFault}
-use borrow.Author.Needs.{needs}
+use Rattle.field.specs.Field.{ranged, limits, stretch, faultOr}
+use Rattle.profile.specs.Steps.{errorFault}
 use Rattle.profile.proofs.record_c.half_fault.Statement.{statement}
 use Rattle.profile.proofs.record_c.half_fault.Tie as tie
 

@@ -1,8 +1,8 @@
 -- Each cell's line is written: safe, and it ends. The measure is the cells that are left.
 use Prim.Native.Nat.{_≤_, _-_}
 use lib.ListN.{length}
-use native.Mathlib.Omega.{arith}
 use borrow.Author.Needs.{needs}
+use native.Mathlib.Omega.{arith}
 use Rattle.replay.proofs.output.write_cells.Statement.{statement}
 use Rattle.replay.proofs.output.write_cells.Tie as tie
 

@@ -1,6 +1,6 @@
 -- The tests in their order.
 use mathlib.Core.Path.{sym}
-use borrow.Author.Tests.{eq-eqb, ne-eqb, lt-ltb, le-ltb}
+use borrow.Author.Tests.{ne-eqb, eq-eqb, lt-ltb, le-ltb}
 use Rattle.replay.proofs.script.count_from.Statement.{statement}
 use Rattle.replay.proofs.script.count_from.Tie as tie
 

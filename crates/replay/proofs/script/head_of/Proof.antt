@@ -27,9 +27,9 @@ returns c =
     let o = c .before .before .before .before .before .before .before in (
       c .head-from .ensures .0
           ∙ same-head (o .args .got) (o .args .cells)
-          (c .before .before .before .before .before .number-at .ensures)
-          (c .before .before .before .number-at2 .ensures)
-          (c .before .number-at3 .ensures),
+          (c .before .before .before .before .before .number-at .ensures .0)
+          (c .before .before .before .number-at2 .ensures .0)
+          (c .before .number-at3 .ensures .0),
       c .head-from .ensures .1,
     )
 

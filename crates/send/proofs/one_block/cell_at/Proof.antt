@@ -1,9 +1,9 @@
 -- A cell of the sheet: BlockCells keeps columns times rows small.
-use mathlib.Core.Path.{ap}
-use Prim.Native.Nat.{ℕ, _+_, _*_, _≤_}
+use borrow.Author.Needs.{needs}
+use Prim.Native.Nat.{_*_, _≤_, ℕ, _+_}
 use native.Mathlib.Nat.{mul-le-mul}
 use native.Mathlib.Omega.{arith}
-use borrow.Author.Needs.{needs}
+use mathlib.Core.Path.{ap}
 use Rattle.send.proofs.BlockCells.{columns-most, rows-most}
 use Rattle.send.proofs.one_block.cell_at.Statement.{statement}
 use Rattle.send.proofs.one_block.cell_at.Tie as tie

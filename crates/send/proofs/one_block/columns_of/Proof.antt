@@ -1,7 +1,7 @@
 -- The lattice's count.
-use mathlib.Core.Path.{ap}
 use borrow.Author.Needs.{needs}
-use Rattle.sheet.specs.declared.lattice.Lattice.{Lattice}
+use mathlib.Core.Path.{ap}
+use Rattle.lattice.specs.declared.Lattice.{Lattice}
 use Rattle.send.proofs.one_block.columns_of.Statement.{statement}
 use Rattle.send.proofs.one_block.columns_of.Tie as tie
 

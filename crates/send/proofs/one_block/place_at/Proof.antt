@@ -1,7 +1,7 @@
 -- A sum and a product, each in the machine's range: BlockPlaces.
 use mathlib.Core.Path.{_≡_}
 use lib.IntN.{pos}
-use mir.Facts.{toZ-ofZ, toZ-pos}
+use mir.Facts.{toZ-pos, toZ-ofZ}
 use mir.Syntax.{w64}
 use mir.Val.{toZ}
 use Rattle.send.proofs.BlockPlaces.{index-small, step-fits, sum-fits, place-fits}

@@ -1,18 +1,20 @@
--- The extremes of all the sheet's cells go into the template: ZeroLaws has the block.
-use mathlib.Core.List.{List}
-use mathlib.Core.Path.{_≡_, sym, _∙_, ap, ap₂}
-use Prim.Native.Nat.{ℕ, _*_, _-_, _≤_}
+-- The extremes of all the sheet's cells go into the template: paint has the block.
+use mathlib.Core.Path.{_≡_, ap₂, sym, _∙_, ap}
+use Prim.Native.Nat.{_*_, _≤_, ℕ, _-_}
 use native.Mathlib.Omega.{arith}
 use borrow.Author.Needs.{needs}
+use mathlib.Core.List.{List}
 use lib.IntN.{ℤ}
 use lib.ListN.{length, take}
-use Rattle.load.specs.Deliver.{cellsOf, zOf}
-use Rattle.meaning.specs.Rules.{leastStated, greatestStated}
+use Rattle.frame.specs.Frame.{cellsOf, zOf}
+use Rattle.ground.specs.Extremes.{leastStated, greatestStated}
 use Rattle.written.specs.Blocks.{sheetCells}
 use Rattle.written.specs.Cells.{sendable}
-use Rattle.written.proofs.PlacesSent.{least-fits, greatest-fits}
 use Rattle.written.proofs.SheetSent.{sheet-length}
-use Rattle.send.proofs.BlockCells.{cells-most, columns-most, z-range, zero-block}
+use Rattle.written.proofs.PlacesSent.{least-fits, greatest-fits}
+use Rattle.columns.proofs.GridJudged.{cells-most}
+use Rattle.paint.proofs.Fitting.{zero-whole}
+use Rattle.send.proofs.BlockCells.{z-range, columns-most, zero-block}
 use Rattle.send.proofs.BlockPlaces.{back-is, back-fits}
 use Rattle.send.proofs.one_block.write_block_zero.Statement.{statement}
 use Rattle.send.proofs.one_block.write_block_zero.Tie as tie
@@ -76,15 +78,7 @@ greatest-is : (c : tie.After-extremes-of) → c .extremes-of .result .greatest �
 greatest-is c = c .extremes-of .ensures .1 ∙ ap greatestStated (lent c)
 
 write-zero-requires : tie.Need-write-zero-requires
-write-zero-requires c κs =
-    let e = c .before .before .before in
-    let s = start-2 e in
-    let columns = e .before .before .before .columns-of in
-    let z = zOf (s .args .h) in
-    let least = back-fits (leastStated (cells e)) (least-is e) (least-fits z (z-most e) (cells e) (all e)) in
-    let greatest = back-fits (greatestStated (cells e)) (greatest-is e) (greatest-fits z (z-most e) (cells e) (all e)) in
-    let most : columns .result ≤ 2048 = omega (arith, columns .ensures, columns-most (s .args .h) (s .pre .sheet .obeys)) in
-    (s .pre .template-long, (s .pre .long, (s .pre .sheet .obeys, (least, (greatest, most)))))
+write-zero-requires c κs = search needs
 
 same-length : tie.Need-same-length
 same-length c = search needs
@@ -93,11 +87,16 @@ returns : tie.Need-returns
 returns c =
     let w = c .before .before in
     let e = w .before .before .before .before in
-    let a = start-2 e .args in
-    let least = back-is (leastStated (cells e)) (least-is e) (least-fits (zOf (a .h)) (z-most e) (cells e) (all e)) in
-    let greatest = back-is (greatestStated (cells e)) (greatest-is e) (greatest-fits (zOf (a .h)) (z-most e) (cells e) (all e)) in
-    zero-block (a .template .now) (a .h) (a .grid .now) (w .write-zero .ensures) least greatest
-    (e .before .before .before .columns-of .ensures)
+    let s = start-2 e in
+    let a = s .args in
+    let columns = e .before .before .before .columns-of in
+    let low = least-fits (zOf (a .h)) (z-most e) (cells e) (all e) in
+    let high = greatest-fits (zOf (a .h)) (z-most e) (cells e) (all e) in
+    let most : columns .result ≤ 2048 = omega (arith, columns .ensures, columns-most (a .h) (s .pre .sheet .obeys)) in
+    zero-block (a .template .now) (a .h) (a .grid .now)
+    (zero-whole (a .template .now) (a .h) _ _ (columns .result) (a .block .now) (w .write-zero .ensures) (s .pre .template-long) (s .pre .long) (s .pre .sheet .obeys) (back-fits _ (least-is e) low)
+    (back-fits _ (greatest-is e) high) most)
+    (back-is _ (least-is e) low) (back-is _ (greatest-is e) high) (columns .ensures)
 
 pub write-block-zero-spec : {M : Type 1} → statement M
 write-block-zero-spec =

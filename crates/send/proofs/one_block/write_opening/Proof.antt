@@ -1,33 +1,19 @@
 -- The head of the profile and its front cells: BlockCells has the block.
-use mathlib.Core.Bool.{true}
-use mathlib.Core.Path.{_≡_, _∙_, ap}
-use Prim.Native.Nat.{_+_, _*_, _-_, min, _≤_}
-use native.Mathlib.Numerals.{add-one}
 use native.Mathlib.Omega.{arith}
 use borrow.Author.Needs.{needs}
+use mathlib.Core.Path.{_≡_, _∙_, ap}
+use Prim.Native.Nat.{_+_, _*_, _-_, min, _≤_}
 use lib.ListN.{length}
-use Rattle.sheet.specs.RecordA.{rowsOf}
-use Rattle.load.specs.Deliver.{zOf}
-use Rattle.meaning.specs.Rules.{leastStated, greatestStated}
+use mathlib.Core.Bool.{true}
+use native.Mathlib.Numerals.{add-one}
+use Rattle.frame.specs.Frame.{rowsOf, zOf}
+use Rattle.ground.specs.Extremes.{leastStated, greatestStated}
 use Rattle.spell.specs.Spell.{realFits}
-use Rattle.written.specs.Blocks.{xSent, yOfRow}
 use Rattle.written.specs.Cells.{cellsSent}
+use Rattle.written.specs.Blocks.{xSent, yOfRow}
 use Rattle.written.proofs.PlacesSent.{x-fits, y-fits, least-fits, greatest-fits}
-use Rattle.send.proofs.BlockCells.{
-  z-range,
-  row-below,
-  posts-most,
-  column-most,
-  posts-room,
-  from-most,
-  profile-sends,
-  all-cells,
-  lent-cells,
-  lent-sends,
-  lent-most,
-  lent-room,
-  opening-block,
-}
+use Rattle.paint.proofs.Fitting.{first-whole}
+use Rattle.send.proofs.BlockCells.{row-below, from-most, posts-room, lent-room, column-most, posts-most, all-cells, z-range, profile-sends, lent-cells, lent-sends, lent-most, opening-block}
 use Rattle.send.proofs.BlockPlaces.{back-is, back-fits}
 use Rattle.send.proofs.one_block.write_opening.Statement.{statement}
 use Rattle.send.proofs.one_block.write_opening.Tie as tie
@@ -93,6 +79,12 @@ y-of-requires c κs = let s = start-2 (c .before) in (s .pre .sheet .obeys, row-
 add-write-first : tie.Need-add-write-first
 add-write-first c = omega (arith, column-most (start-2 (c .before .before) .pre))
 
+cast-write-first : tie.Need-cast-write-first
+cast-write-first c = omega (arith, column-most (start-2 (c .before .before) .pre))
+
+cast-write-first-2 : tie.Need-cast-write-first-2
+cast-write-first-2 c = omega (arith, posts-most (start-2 (c .before .before) .pre))
+
 z-of-requires : tie.Need-z-of-requires
 z-of-requires c κs = search needs
 
@@ -154,26 +146,7 @@ numbers c =
     }
 
 write-first-requires : tie.Need-write-first-requires
-write-first-requires c κs =
-    let z = c .before .before .before .before in
-    let n = at-no-more z in
-    let s = start-3 z in
-    let r = cell n .cell-at .result in
-    let m = n .no-more .result in
-    let z-is = z .z-of .ensures in
-    let some = z-range (s .args .h) (s .pre .sheet .obeys) .0 in
-    record {
-      number-most = omega (arith, column-most (s .pre));
-      posts-most = posts-most (s .pre);
-      x-fits = back-fits _ (z .before .before .x-of .ensures) (numbers z .x);
-      y-fits = back-fits _ (z .before .y-of .ensures) (numbers z .y);
-      least-fits = back-fits _ (least-is z) (numbers z .least);
-      greatest-fits = back-fits _ (greatest-is z) (numbers z .greatest);
-      some = omega (arith, z-is, some);
-      sent = rw z-is (lent-sends (s .pre) 0 146 r m (from-is n) (many-is n));
-      cells-most = lent-most (s .pre) 0 146 r m (from-is n) (many-is n);
-      room = s .pre .long;
-    }
+write-first-requires c κs = search needs
 
 same-length : tie.Need-same-length
 same-length c = search needs
@@ -184,10 +157,25 @@ returns c =
     let z = w .before .before .before .before .before in
     let n = at-no-more z in
     let s = start-3 z in
-    opening-block (s .pre) (w .write-first .ensures) (add-one (s .args .column))
+    let r = cell n .cell-at .result in
+    let m = n .no-more .result in
+    opening-block (s .pre)
+    (first-whole (w .write-first .ensures)
+    (record {
+      number-most = omega (arith, column-most (s .pre));
+      posts-most = posts-most (s .pre);
+      x-fits = back-fits _ (z .before .before .x-of .ensures) (numbers z .x);
+      y-fits = back-fits _ (z .before .y-of .ensures) (numbers z .y);
+      least-fits = back-fits _ (least-is z) (numbers z .least);
+      greatest-fits = back-fits _ (greatest-is z) (numbers z .greatest);
+      sent = rw (z .z-of .ensures) (lent-sends (s .pre) 0 146 r m (from-is n) (many-is n));
+      cells-most = lent-most (s .pre) 0 146 r m (from-is n) (many-is n);
+      long = s .pre .long;
+    }))
+    (add-one (s .args .column))
     (back-is _ (z .before .before .x-of .ensures) (numbers z .x)) (back-is _ (z .before .y-of .ensures) (numbers z .y))
     (back-is _ (least-is z) (numbers z .least)) (back-is _ (greatest-is z) (numbers z .greatest)) (z .z-of .ensures)
-    (lent-cells (s .pre) 0 146 (cell n .cell-at .result) (n .no-more .result) (from-is n) (many-is n))
+    (lent-cells (s .pre) 0 146 r m (from-is n) (many-is n))
 
 pub write-opening-spec : {M : Type 1} → statement M
 write-opening-spec =
@@ -205,6 +193,8 @@ write-opening-spec =
     x-of-requires
     y-of-requires
     add-write-first
+    cast-write-first
+    cast-write-first-2
     z-of-requires
     mul-write-first
     sub-write-first

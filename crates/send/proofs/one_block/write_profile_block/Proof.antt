@@ -1,23 +1,13 @@
 -- The first block is the opening; a further one has the cells behind those sent: BlockCells has the block.
-use mathlib.Core.Path.{_≡_, sym, _∙_, ap}
-use Prim.Native.Nat.{ℕ, suc, _+_, _*_, _-_, min, _≤_, _<_}
 use native.Mathlib.Omega.{arith}
 use borrow.Author.Needs.{needs}
+use mathlib.Core.Path.{sym, _∙_, ap, _≡_}
+use Prim.Native.Nat.{ℕ, _+_, _*_, _-_, _<_, min, _≤_, suc}
 use lib.ListN.{length}
-use Rattle.sheet.specs.RecordA.{rowsOf}
+use Rattle.frame.specs.Frame.{rowsOf}
 use Rattle.written.specs.Blocks.{profileBlock}
-use Rattle.send.proofs.BlockCells.{
-  z-range,
-  row-below,
-  posts-most,
-  from-most,
-  lent-cells,
-  lent-sends,
-  lent-most,
-  lent-room,
-  further-block,
-  skip-inside,
-}
+use Rattle.paint.proofs.Fitting.{further-whole}
+use Rattle.send.proofs.BlockCells.{skip-inside, posts-most, row-below, from-most, lent-room, lent-cells, lent-sends, lent-most, further-block}
 use Rattle.send.proofs.one_block.write_profile_block.Statement.{statement}
 use Rattle.send.proofs.one_block.write_profile_block.Tie as tie
 
@@ -120,19 +110,7 @@ part-write-further-end : tie.Need-part-write-further-end
 part-write-further-end c = omega (arith, end-room (c .before))
 
 write-further-requires : tie.Need-write-further-requires
-write-further-requires c κs =
-    let z = c .before .before in
-    let n = z .before in
-    let s = start-2 n in
-    let m = n .no-more .result in
-    let z-is = z .z-of .ensures in
-    let some = z-range (s .args .h) (s .pre .sheet .obeys) .0 in
-    record {
-      some = omega (arith, z-is, some);
-      sent = rw z-is (lent-sends (s .pre) (skip (else n)) 170 (from n) m (from-is n) (many-is n));
-      cells-most = lent-most (s .pre) (skip (else n)) 170 (from n) m (from-is n) (many-is n);
-      room = s .pre .long;
-    }
+write-further-requires c κs = search needs
 
 same-length-2 : tie.Need-same-length-2
 same-length-2 c = search needs
@@ -145,9 +123,12 @@ returns-2 c =
     let s = start-2 n in
     let left = else n .if1 .left in
     let k-is : s .args .k ≡ suc (s .args .k - 1) = omega (arith, left) in
-    w .write-further .ensures
+    let m = n .no-more .result in
+    further-whole _ _ _ (w .write-further .ensures)
+    (rw (z .z-of .ensures) (lent-sends (s .pre) (skip (else n)) 170 (from n) m (from-is n) (many-is n)))
+    (lent-most (s .pre) (skip (else n)) 170 (from n) m (from-is n) (many-is n)) (s .pre .long)
     ∙ further-block (s .pre) (s .args .k - 1) k-is (z .z-of .ensures)
-    (lent-cells (s .pre) (skip (else n)) 170 (from n) (n .no-more .result) (from-is n) (many-is n))
+    (lent-cells (s .pre) (skip (else n)) 170 (from n) m (from-is n) (many-is n))
 
 pub write-profile-block-spec : {M : Type 1} → statement M
 write-profile-block-spec =

@@ -1,8 +1,8 @@
 -- The part that is lent is the column.
+use borrow.Author.Needs.{needs}
 use Prim.Native.Nat.{ℕ, _+_, _*_, _-_}
 use mathlib.Core.Path.{_≡_, _∙_, ap}
 use native.Mathlib.Omega.{arith}
-use borrow.Author.Needs.{needs}
 use lib.ListN.{length, take, drop}
 use Rattle.written.specs.Cells.{firstRow, profileCells}
 use Rattle.send.proofs.scan.column_at.Statement.{statement}

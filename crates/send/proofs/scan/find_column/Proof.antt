@@ -1,10 +1,11 @@
 -- Each column passed ends before the block; ScanLaws has that the first that does not is the one.
-use Prim.Native.Nat.{ℕ, _+_, _≤_, _<_, _-_}
-use mathlib.Core.Path.{_≡_, sym, _∙_, ap, subst}
+use Prim.Native.Nat.{_≤_, _-_, ℕ, _+_, _<_}
+use mathlib.Core.Path.{_≡_, sym, subst, _∙_, ap}
 use native.Mathlib.Omega.{arith}
+use borrow.Author.Needs.{needs}
 use Rattle.written.specs.Cells.{startAt}
 use Rattle.written.proofs.SheetSent.{first-start}
-use Rattle.send.proofs.ScanLaws.{start-more, column-room, posts-most, next-most, finds}
+use Rattle.send.proofs.ScanLaws.{column-room, next-most, finds, start-more}
 use Rattle.send.proofs.scan.find_column.Statement.{statement}
 use Rattle.send.proofs.scan.find_column.Tie as tie
 
@@ -21,9 +22,7 @@ column-at-requires : tie.Need-column-at-requires Inv-loop μ-loop
 column-at-requires c κs = column-room (c .before .before .pre .0) (c .before .loop .c) (c .loop-test .taken)
 
 blocks-for-requires : tie.Need-blocks-for-requires Inv-loop μ-loop
-blocks-for-requires c κs =
-    let l = c .before .before in
-    omega (arith, posts-most (l .before .pre .0) (l .loop .c) (c .before .loop-test .taken), c .column-at .ensures .1)
+blocks-for-requires c κs = search needs
 
 add-next : tie.Need-add-next Inv-loop μ-loop
 add-next c =

@@ -1,13 +1,13 @@
 -- Block 0 in the buffer's first stretch, the columns behind it: WholeText has the whole buffer.
-use mathlib.Core.Path.{refl}
 use native.Mathlib.Omega.{arith}
 use lib.ListN.{length}
 use Prim.Native.Nat.{_≤_}
+use borrow.Author.Needs.{needs}
+use mathlib.Core.Path.{refl}
+use Rattle.frame.specs.Frame.{columnsOf, rowsOf}
 use Rattle.written.specs.Blocks.{blockZero}
 use Rattle.written.proofs.SheetSent.{start-from}
-use Rattle.sheet.specs.RecordA.{columnsOf, rowsOf}
 use Rattle.send.proofs.WholeText.{block-put, whole-put}
-use borrow.Author.Needs.{needs}
 use Rattle.send.proofs.whole_sheet.write_blocks.Statement.{statement}
 use Rattle.send.proofs.whole_sheet.write_blocks.Tie as tie
 

@@ -1,19 +1,18 @@
 -- The column's blocks one behind the other: after k turns the first k stand; WholeText has one more.
-use Prim.Native.Nat.{ℕ, _+_, _-_, _*_, _≤_}
-use mathlib.Core.Path.{_≡_, _∙_, ap, sym, subst}
-use native.Mathlib.Omega.{arith}
-use borrow.Author.Needs.{needs}
+use Prim.Native.Nat.{_+_, _*_, _≤_, _-_, ℕ}
+use mathlib.Core.Path.{_≡_, sym, subst, _∙_, ap}
 use lib.ListN.{length, drop, length-drop}
+use borrow.Author.Needs.{needs}
+use native.Mathlib.Omega.{arith}
 use lib.Seq.{length-take-le}
-use Rattle.load.specs.Posts.{blocksFor}
-use Rattle.spell.specs.Pieces.{Puts}
-use Rattle.spell.proofs.Pieces.{put-none}
-use Rattle.written.specs.Cells.{columnAt, cellsSent, firstRow, profileCells, columnCells}
+use Rattle.numerals.specs.Pieces.{Puts}
+use Rattle.numerals.proofs.Pieces.{put-none}
+use Rattle.ground.specs.Posts.{blocksFor}
+use Rattle.written.specs.Cells.{columnAt, firstRow, columnCells, cellsSent, profileCells}
 use Rattle.written.specs.Blocks.{profileBlock}
 use Rattle.send.specs.WholeSteps.{blocksText}
-use Rattle.send.proofs.ProfileText.{named}
-use Rattle.send.proofs.ScanLaws.{sizes, column-room, posts-most}
-use Rattle.send.proofs.WholeText.{block-put, block-more}
+use Rattle.send.proofs.ScanLaws.{sizes, column-room}
+use Rattle.send.proofs.WholeText.{block-put, block-more, named}
 use Rattle.send.proofs.whole_sheet.write_column.Statement.{statement}
 use Rattle.send.proofs.whole_sheet.write_column.Tie as tie
 
@@ -51,9 +50,7 @@ posts-are c =
     ∙ ap (λ (r : ℕ). length (profileCells (columnAt r (s .args .grid .now) (s .args .column)))) (c .before .rows-of .ensures)
 
 blocks-for-requires : tie.Need-blocks-for-requires Inv-loop μ-loop
-blocks-for-requires c κs =
-    let s = c .before .before .before in
-    omega (arith, posts-are c, posts-most (sizes (s .pre .sheet)) (s .args .column) (s .pre .inside))
+blocks-for-requires c κs = search needs
 
 blocks-are : (c : tie.After-blocks-for Inv-loop μ-loop)
     → c .blocks-for .result

@@ -1,16 +1,15 @@
 -- Column by column, behind block 0: after c turns the first c columns' blocks stand; WholeText has one more.
-use Prim.Native.Nat.{suc, _-_, _*_, _≤_, _<_}
+use Prim.Native.Nat.{_*_, _≤_, _-_, suc, _<_}
 use mathlib.Core.Path.{_≡_, _∙_, ap}
 use native.Mathlib.Omega.{arith}
 use lib.ListN.{length}
-use Rattle.spell.specs.Pieces.{Puts}
-use Rattle.spell.proofs.Pieces.{put-none}
-use Rattle.sheet.specs.RecordA.{columnsOf, rowsOf}
+use Rattle.numerals.specs.Pieces.{Puts}
+use Rattle.numerals.proofs.Pieces.{put-none}
+use Rattle.frame.specs.Frame.{rowsOf, columnsOf}
 use Rattle.written.specs.Cells.{startSent}
 use Rattle.written.proofs.SheetSent.{first-start, start-next, start-order}
 use Rattle.send.specs.WholeSteps.{columnsText}
-use Rattle.send.proofs.ProfileText.{named}
-use Rattle.send.proofs.WholeText.{column-more, next-start, all-there}
+use Rattle.send.proofs.WholeText.{column-more, next-start, named, all-there}
 use Rattle.send.proofs.whole_sheet.write_columns.Statement.{statement}
 use Rattle.send.proofs.whole_sheet.write_columns.Tie as tie
 

@@ -1,14 +1,14 @@
 -- The buffer's length is the count's, and every block is written; or it is another, and nothing is.
-use mathlib.Core.Bool.{true, false}
-use mathlib.Core.Path.{_≡_, refl, sym, _∙_, ap}
+use mathlib.Core.Path.{_≡_, _∙_, ap, refl, sym}
 use Prim.Native.Nat.{ℕ, _*_}
-use native.Mathlib.Omega.{arith}
-use borrow.Author.Tests.{eq-eqb, ne-eqb}
-use lib.Dec.{eqb}
 use lib.ListN.{length}
+use borrow.Author.Needs.{needs}
+use native.Mathlib.Omega.{arith}
+use mathlib.Core.Bool.{false, true}
+use borrow.Author.Tests.{ne-eqb, eq-eqb}
+use lib.Dec.{eqb}
 use Rattle.written.specs.Cells.{blockCount}
 use Rattle.send.proofs.WholeText.{count-most}
-use borrow.Author.Needs.{needs}
 use Rattle.send.proofs.whole_sheet.write_fitting.Statement.{statement}
 use Rattle.send.proofs.whole_sheet.write_fitting.Tie as tie
 

@@ -1,10 +1,10 @@
 -- The loop keeps `Decoding`, whose laws are in Cells. The measure is the cells that are left.
-use mathlib.Core.Path.{_∙_}
 use Prim.Native.Nat.{_-_}
-use native.Mathlib.Omega.{arith}
 use lib.ListN.{length, length-set}
+use native.Mathlib.Omega.{arith}
 use mir.Syntax.{w32}
 use mir.Val.{toZ, ofZ}
+use mathlib.Core.Path.{_∙_}
 use mir.Facts.{toZ-ofZ}
 use Rattle.sender.proofs.Cells.{Decoding, decoding-start, decoding-turn, decoding-end}
 use Rattle.sender.proofs.input.decode.Statement.{statement}

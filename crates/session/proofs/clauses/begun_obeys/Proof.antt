@@ -1,10 +1,10 @@
 -- The counts are looked at where the rest obeys, and the bounds of the rest are theirs: `places-bound`.
 use mathlib.Core.Bool.{true, false}
 use mathlib.Core.Path.{_≡_, sym, _∙_}
-use borrow.Author.Tests.{not-true, not-false}
+use borrow.Author.Tests.{not-false, not-true}
 use Rattle.laws.proofs.Tests.{and-fails-first}
 use Rattle.session.specs.Steps.{placesObey, countsObey}
-use Rattle.session.proofs.Bounds.{places-bound, halves}
+use Rattle.session.proofs.Bounds.{halves, places-bound}
 use Rattle.session.proofs.clauses.begun_obeys.Statement.{statement}
 use Rattle.session.proofs.clauses.begun_obeys.Tie as tie
 

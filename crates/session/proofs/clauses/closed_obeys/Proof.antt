@@ -1,8 +1,7 @@
 -- Two bounds.
 use mathlib.Core.Path.{_∙_}
 use lib.Dec.{leb, ltb}
-use Rattle.laws.specs.Sign.{_and_}
-use Rattle.session.specs.Session.{implies}
+use Rattle.laws.specs.Sign.{_and_, implies}
 use Rattle.session.proofs.clauses.closed_obeys.Statement.{statement}
 use Rattle.session.proofs.clauses.closed_obeys.Tie as tie
 

@@ -3,7 +3,7 @@ use mathlib.Core.Path.{_∙_}
 use mathlib.Core.Bool.{true, cond}
 use Prim.Native.Nat.{_+_}
 use lib.Dec.{leb, ltb}
-use Rattle.session.specs.Session.{implies}
+use Rattle.laws.specs.Sign.{implies}
 use Rattle.session.proofs.clauses.column_obeys.Statement.{statement}
 use Rattle.session.proofs.clauses.column_obeys.Tie as tie
 

@@ -1,8 +1,8 @@
 -- Four clauses.
 use mathlib.Core.Path.{_∙_}
-use Rattle.laws.specs.Sign.{_and_}
-use Rattle.session.specs.Session.{implies, extremesObey}
+use Rattle.laws.specs.Sign.{_and_, implies}
 use Rattle.laws.proofs.Signs.{back}
+use Rattle.session.specs.Session.{extremesObey}
 use Rattle.session.proofs.clauses.counts_obey.Statement.{statement}
 use Rattle.session.proofs.clauses.counts_obey.Tie as tie
 

@@ -4,8 +4,7 @@ use lib.Dec.{leb, ltb}
 use lib.IntN.{natAbs}
 use lib.Signed.{leZ}
 use mir.Facts.{toZ-ofZ}
-use Rattle.laws.specs.Sign.{_and_}
-use Rattle.session.specs.Session.{implies}
+use Rattle.laws.specs.Sign.{_and_, implies}
 use Rattle.session.proofs.clauses.extremes_obey.Statement.{statement}
 use Rattle.session.proofs.clauses.extremes_obey.Tie as tie
 

@@ -1,8 +1,7 @@
 -- A record C.
 use mathlib.Core.Path.{_∙_}
 use lib.Dec.{leb, eqb}
-use Rattle.laws.specs.Sign.{_and_}
-use Rattle.session.specs.Session.{implies}
+use Rattle.laws.specs.Sign.{_and_, implies}
 use Rattle.session.proofs.clauses.finish_obeys.Statement.{statement}
 use Rattle.session.proofs.clauses.finish_obeys.Tie as tie
 

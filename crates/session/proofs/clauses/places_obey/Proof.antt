@@ -1,7 +1,6 @@
 -- Five clauses.
 use mathlib.Core.Path.{_∙_}
-use Rattle.laws.specs.Sign.{_and_}
-use Rattle.session.specs.Session.{implies}
+use Rattle.laws.specs.Sign.{_and_, implies}
 use Rattle.session.proofs.clauses.places_obey.Statement.{statement}
 use Rattle.session.proofs.clauses.places_obey.Tie as tie
 

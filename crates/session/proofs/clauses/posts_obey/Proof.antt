@@ -1,10 +1,9 @@
 -- The sums fit by the bounds on what they add.
+use native.Mathlib.Omega.{arith}
 use mathlib.Core.Path.{_∙_}
 use Prim.Native.Nat.{_+_, _*_}
-use native.Mathlib.Omega.{arith}
 use lib.Dec.{leb}
-use Rattle.laws.specs.Sign.{_and_}
-use Rattle.session.specs.Session.{implies}
+use Rattle.laws.specs.Sign.{_and_, implies}
 use Rattle.session.proofs.clauses.posts_obey.Statement.{statement}
 use Rattle.session.proofs.clauses.posts_obey.Tie as tie
 

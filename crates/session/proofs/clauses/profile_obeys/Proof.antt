@@ -4,8 +4,8 @@ use Prim.Native.Nat.{_+_}
 use lib.Dec.{leb}
 use lib.IntN.{natAbs}
 use Rattle.laws.specs.Sign.{_and_}
-use Rattle.session.specs.Session.{isRealNumber}
-use Rattle.session.proofs.Told.{told}
+use Rattle.laws.proofs.Told.{told}
+use Rattle.heading.specs.Heading.{isRealNumber}
 use Rattle.session.proofs.clauses.profile_obeys.Statement.{statement}
 use Rattle.session.proofs.clauses.profile_obeys.Tie as tie
 

@@ -1,6 +1,6 @@
 -- Below 146 nothing is read off.
 use mathlib.Core.Path.{sym, _∙_}
-use borrow.Author.Tests.{le-leb, lt-leb}
+use borrow.Author.Tests.{lt-leb, le-leb}
 use Rattle.session.proofs.clauses.read_obeys.Statement.{statement}
 use Rattle.session.proofs.clauses.read_obeys.Tie as tie
 

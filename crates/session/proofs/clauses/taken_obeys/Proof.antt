@@ -1,7 +1,7 @@
 -- The sums fit by the bounds on what they add: `blocks-few`.
-use mathlib.Core.Path.{_∙_}
-use Prim.Native.Nat.{_+_, _*_, _≤_}
+use Prim.Native.Nat.{_≤_, _+_, _*_}
 use native.Mathlib.Omega.{arith}
+use mathlib.Core.Path.{_∙_}
 use lib.Dec.{leb}
 use Rattle.laws.specs.Sign.{_and_}
 use Rattle.session.proofs.Bounds.{blocks-few}

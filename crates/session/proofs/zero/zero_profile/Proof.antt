@@ -1,8 +1,8 @@
 -- Nine fields, from the last join to the first.
 use mathlib.Core.Path.{_∙_}
-use Rattle.laws.specs.Sign.{isZero, _and_}
 use lib.Dec.{eqb}
-use Rattle.session.proofs.Told.{told}
+use Rattle.laws.specs.Sign.{isZero, _and_}
+use Rattle.laws.proofs.Told.{told}
 use Rattle.session.proofs.zero.zero_profile.Statement.{statement}
 use Rattle.session.proofs.zero.zero_profile.Tie as tie
 

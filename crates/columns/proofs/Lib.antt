@@ -1,0 +1,4 @@
+pub mod Columns
+pub mod Sendable
+pub mod ExtremeLaws
+pub mod GridJudged

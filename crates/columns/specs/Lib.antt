@@ -1,0 +1,2 @@
+pub mod ExtremeSteps
+pub mod Judging

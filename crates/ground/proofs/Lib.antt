@@ -1,0 +1,5 @@
+pub mod Heights
+pub mod Tallies
+pub mod MergedTallies
+pub mod BlockCounts
+pub mod PostsRead

@@ -1,0 +1,5 @@
+pub mod Pieces
+pub mod Spelling
+pub mod Counts
+pub mod Spelled
+pub mod Numerals

@@ -1,0 +1,4 @@
+pub mod FieldLaws
+pub mod ZeroTable
+pub mod ZeroWalk
+pub mod Fitting

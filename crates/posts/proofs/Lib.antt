@@ -1,0 +1,4 @@
+pub mod PostRange
+pub mod Scans
+pub mod BlockScans
+pub mod Asking

@@ -1,0 +1,125 @@
+-- The walk over the table: the loop keeps `Reached`, whose laws are in TableA.
+use Prim.Native.Nat.{_-_}
+use native.Mathlib.Omega.{arith}
+use mathlib.Core.Path.{sym, _∙_}
+use mir.Facts.{toZ-ofZ}
+use mir.Syntax.{w64}
+use Rattle.sheet.proofs.TableA.{Reached, reached-start, row-inside, reached-stop, reached-turn, reached-end}
+use Rattle.sheet.proofs.walk.Statement.{statement}
+use Rattle.sheet.proofs.walk.Tie as tie
+
+abbrev Inv-loop : tie.InvT-loop
+Inv-loop block values₀ system vertical i₀ values i = Reached block values system vertical i
+
+abbrev μ-loop : tie.MeasureT-loop
+μ-loop block values₀ system vertical i₀ values i = 41 - i
+
+whole-at-requires : tie.Need-whole-at-requires Inv-loop μ-loop
+whole-at-requires c κs = tt
+
+whole-at-requires-2 : tie.Need-whole-at-requires-2 Inv-loop μ-loop
+whole-at-requires-2 c κs = tt
+
+loop-holds : tie.Need-loop-holds Inv-loop μ-loop
+loop-holds c =
+    let a = c .before .before .before in
+    reached-start (a .args .block .now) (a .args .values .now) (c .before .whole-at .result) (c .whole-at2 .result)
+    (record { long = a .pre .0; system-is = c .before .whole-at .ensures; vertical-is = c .whole-at2 .ensures })
+    (a .pre .1)
+
+judge-at-requires : tie.Need-judge-at-requires Inv-loop μ-loop
+judge-at-requires c κs = (c .loop-test .taken, c .before .loop .inv .begun)
+
+first-byte-requires : tie.Need-first-byte-requires Inv-loop μ-loop
+first-byte-requires c κs = c .before .before .before .loop-test .taken
+
+cast-t10 : tie.Need-cast-t10 Inv-loop μ-loop
+cast-t10 c =
+    let n = c .before .before .before .before in
+    omega (arith, c .first-byte .ensures, row-inside (n .before .loop .i) (n .loop-test .taken) .1)
+
+same-length : tie.Need-same-length Inv-loop μ-loop
+same-length c = let l = c .before .before .before .before .before in l .loop .inv .many ∙ sym (l .before .before .before .before .pre .1)
+
+returns : tie.Need-returns Inv-loop μ-loop
+returns c =
+    let j = c .before .before .before in
+    let l = j .before .before in
+    let a = l .before .before .before .before .args in
+    record {
+      first =
+          reached-stop (a .block .now) (l .loop .values) (l .before .before .whole-at .result) (l .before .whole-at2 .result) (l .loop .i)
+          (l .loop .inv)
+          (j .before .loop-test .taken)
+          (j .judge-at .result)
+          (j .judge-at .ensures)
+          (c .first-byte .result)
+          (c .first-byte .ensures)
+          (c .before .if1 .taken);
+      read = λ z. absurd (c .before .if1 .taken z);
+    }
+
+mul-value : tie.Need-mul-value Inv-loop μ-loop
+mul-value c = omega (arith, c .before .before .before .before .loop-test .taken)
+
+slice-set-from-value : tie.Need-slice-set-from-value Inv-loop μ-loop
+slice-set-from-value c =
+    let l = c .before .before .before .before .before in
+    omega (arith, c .before .before .before .before .loop-test .taken, l .loop .inv .many)
+
+add-i : tie.Need-add-i Inv-loop μ-loop
+add-i c = omega arith
+
+loop-less : tie.Need-loop-less Inv-loop μ-loop
+loop-less c = omega arith
+
+loop-again : tie.Need-loop-again Inv-loop μ-loop
+loop-again c =
+    let j = c .before .before .before in
+    let l = j .before .before in
+    let a = l .before .before .before .before .args in
+    let back = toZ-ofZ {w = w64} {z = j .judge-at .result .value} (record { sfits = c .struct-told .given .1 .0 .1 }) in
+    rw back
+    (reached-turn (a .block .now) (l .loop .values) (l .before .before .whole-at .result) (l .before .whole-at2 .result) (l .loop .i)
+    (l .loop .inv)
+    (j .before .loop-test .taken)
+    (j .judge-at .result)
+    (j .judge-at .ensures)
+    (c .before .if1 .left))
+
+same-length-2 : tie.Need-same-length-2 Inv-loop μ-loop
+same-length-2 c = c .before .loop .inv .many ∙ sym (c .before .before .before .before .before .pre .1)
+
+returns-2 : tie.Need-returns-2 Inv-loop μ-loop
+returns-2 c =
+    let l = c .before in
+    let a = l .before .before .before .before .args in
+    record {
+      first =
+          reached-end (a .block .now) (l .loop .values) (l .before .before .whole-at .result) (l .before .whole-at2 .result) (l .loop .i)
+          (l .loop .inv)
+          (c .loop-test .left);
+      read = λ z i h. l .loop .inv .read i (omega (arith, c .loop-test .left));
+    }
+
+pub walk-spec : {M : Type 1} → statement M
+walk-spec =
+    tie.close
+    (tie.spec
+    Inv-loop
+    μ-loop
+    whole-at-requires
+    whole-at-requires-2
+    loop-holds
+    judge-at-requires
+    first-byte-requires
+    cast-t10
+    same-length
+    returns
+    mul-value
+    slice-set-from-value
+    add-i
+    loop-less
+    loop-again
+    same-length-2
+    returns-2)
