@@ -61,7 +61,7 @@ at byte reading = record { byte = byte; reading = reading }
 -- the first fault by byte; kind 0 where there is none
 abbrev pub firstOf : List Judged → Fault
 firstOf [] = fault 0 0
-firstOf (j ∷ js) = cond (eqb (j .reading .kind) 0) (firstOf js) (fault (j .reading .kind) (j .byte))
+firstOf (j ∷ js) = faultOr (j .reading) (j .byte) (firstOf js)
 
 -- "All that remains of a block is blank (5)."
 abbrev pub restFault : ℕ → List ℕ → Fault

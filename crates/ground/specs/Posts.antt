@@ -7,7 +7,7 @@ use Prim.Native.Nat.{ℕ, zero, suc, _+_, _-_, _/_, _≤_, _*_}
 use Rattle.laws.specs.Sign.{sameZ, lesser, greater}
 use Rattle.number.specs.declared.Reading.{Reading}
 use Rattle.number.specs.Integer.{refused, integer}
-use Rattle.field.specs.Field.{stretch, fault, restFault}
+use Rattle.field.specs.Field.{faultOr, stretch, fault, restFault}
 use Rattle.field.specs.declared.Fault.{Fault}
 use Rattle.ground.specs.declared.Tally.{Tally}
 
@@ -26,9 +26,7 @@ judgePost r = cond (eqb (r .kind) 0) (cond (leb (natAbs (r .value)) 32767) r (re
 -- n posts of six bytes, one behind the other from a byte counted from 1: the first fault, and their values
 abbrev pub postsFault : ℕ → ℕ → List ℕ → Fault
 postsFault zero byte block = fault 0 0
-postsFault (suc n) byte block =
-    cond (eqb (judgePost (integer (stretch byte 6 block)) .kind) 0) (postsFault n (byte + 6) block)
-    (fault (judgePost (integer (stretch byte 6 block)) .kind) byte)
+postsFault (suc n) byte block = faultOr (judgePost (integer (stretch byte 6 block))) byte (postsFault n (byte + 6) block)
 
 abbrev pub postsOf : ℕ → ℕ → List ℕ → List ℤ
 postsOf zero byte block = []

@@ -11,14 +11,15 @@ use Rattle.field.specs.Field.{inRange, limits, fault}
 use Rattle.field.specs.declared.Limits.{Limits}
 use Rattle.frame.specs.Frame.{cornersInOrder, columnsOf, rowsOf, wholeFault, oneTo2048}
 use Rattle.frame.specs.declared.Header.{Header}
-use Rattle.heading.specs.Heading.{heightLimits, billion, zoneLimits, groundLimits, realsObey, fieldsObey, headerObeys}
+use Rattle.heading.specs.Heading.{levelLimits, systemLimits, verticalLimits, accuracyLimits, spacingLimits, profilesLimits, heightLimits, billion, zoneLimits, groundLimits, realsObey, fieldsObey, headerObeys}
 
-pub record Ranged (from to by v : ℕ) : Type 0 where
-  pub least : from ≤ v
-  pub greatest : v ≤ to
-  pub step : v % by ≡ 0
+-- a number in its limits
+pub record Ranged (l : Limits) (v : ℕ) : Type 0 where
+  pub least : l .least ≤ v
+  pub greatest : v ≤ l .greatest
+  pub step : v % l .step ≡ 0
 
-ranged : (l : Limits) (v : ℕ) → inRange l v ≡ true → Ranged (l .least) (l .greatest) (l .step) v
+ranged : (l : Limits) (v : ℕ) → inRange l v ≡ true → Ranged l v
 ranged l v t =
     let a = split (leb (l .least) v) _ t in
     let b = split (leb v (l .greatest)) _ (a .1) in
@@ -46,16 +47,16 @@ height v z t = go (eqb v 1) refl
         record { least = omega arith; greatest = omega arith; step = omega arith }
 
 pub record Heading (h : Header) : Type 0 where
-  pub level : Ranged 1 3 1 (h .level)
-  pub system : h .system ≤ 2
+  pub level : Ranged levelLimits (h .level)
+  pub system : Ranged systemLimits (h .system)
   pub zone : inRange (zoneLimits (h .system)) (h .zone) ≡ true
   pub ground : inRange (groundLimits (h .system)) (h .ground) ≡ true
-  pub vertical : Ranged 1 2 1 (h .vertical)
-  pub accuracy : h .accuracy ≤ 1
-  pub xstep : Ranged billion (9999 * billion) billion (h .xstep)
-  pub ystep : Ranged billion (9999 * billion) billion (h .ystep)
+  pub vertical : Ranged verticalLimits (h .vertical)
+  pub accuracy : Ranged accuracyLimits (h .accuracy)
+  pub xstep : Ranged spacingLimits (h .xstep)
+  pub ystep : Ranged spacingLimits (h .ystep)
   pub zstep : Height (h .zstep)
-  pub profiles : Ranged 1 2048 1 (h .profiles)
+  pub profiles : Ranged profilesLimits (h .profiles)
   pub reals : realsObey h ≡ true
   pub whole : wholeFault h .kind ≡ 0
   pub corners : cornersInOrder h ≡ true
@@ -74,9 +75,6 @@ whole-tests false b c z = absurd (omega arith)
 one-to : (n : ℕ) → oneTo2048 n ≡ true → (1 ≤ n) × (n ≤ 2048)
 one-to n t = let a = split (leb 1 n) _ t in (leb-true 1 n (a .0), leb-true n 2048 (a .1))
 
-abbrev spacing : Limits
-spacing = limits billion (9999 * billion) billion 7
-
 pub header-facts : (h : Header) → headerObeys h ≡ true → Heading h
 header-facts h t =
     let fields = split (fieldsObey h) _ t in
@@ -86,26 +84,26 @@ header-facts h t =
     whole-tests (cornersInOrder h) (oneTo2048 (columnsOf h) and oneTo2048 (rowsOf h)) (leb (h .profiles) (columnsOf h)) whole
     in
     let counts = split (oneTo2048 (columnsOf h)) _ (w .1) in
-    let level = split (inRange (limits 1 3 1 9) (h .level)) _ (fields .0) in
-    let system = split (inRange (limits 0 2 1 9) (h .system)) _ (level .1) in
+    let level = split (inRange levelLimits (h .level)) _ (fields .0) in
+    let system = split (inRange systemLimits (h .system)) _ (level .1) in
     let zone = split (inRange (zoneLimits (h .system)) (h .zone)) _ (system .1) in
     let ground = split (inRange (groundLimits (h .system)) (h .ground)) _ (zone .1) in
-    let vertical = split (inRange (limits 1 2 1 9) (h .vertical)) _ (ground .1) in
-    let accuracy = split (inRange (limits 0 1 1 9) (h .accuracy)) _ (vertical .1) in
-    let x = split (inRange spacing (h .xstep)) _ (accuracy .1) in
-    let y = split (inRange spacing (h .ystep)) _ (x .1) in
+    let vertical = split (inRange verticalLimits (h .vertical)) _ (ground .1) in
+    let accuracy = split (inRange accuracyLimits (h .accuracy)) _ (vertical .1) in
+    let x = split (inRange spacingLimits (h .xstep)) _ (accuracy .1) in
+    let y = split (inRange spacingLimits (h .ystep)) _ (x .1) in
     let z = split (inRange (heightLimits (h .vertical)) (h .zstep)) _ (y .1) in
     record {
-      level = ranged (limits 1 3 1 9) (h .level) (level .0);
-      system = ranged (limits 0 2 1 9) (h .system) (system .0) .greatest;
+      level = ranged levelLimits (h .level) (level .0);
+      system = ranged systemLimits (h .system) (system .0);
       zone = zone .0;
       ground = ground .0;
-      vertical = ranged (limits 1 2 1 9) (h .vertical) (vertical .0);
-      accuracy = ranged (limits 0 1 1 9) (h .accuracy) (accuracy .0) .greatest;
-      xstep = ranged spacing (h .xstep) (x .0);
-      ystep = ranged spacing (h .ystep) (y .0);
+      vertical = ranged verticalLimits (h .vertical) (vertical .0);
+      accuracy = ranged accuracyLimits (h .accuracy) (accuracy .0);
+      xstep = ranged spacingLimits (h .xstep) (x .0);
+      ystep = ranged spacingLimits (h .ystep) (y .0);
       zstep = height (h .vertical) (h .zstep) (z .0);
-      profiles = ranged (limits 1 2048 1 7) (h .profiles) (z .1);
+      profiles = ranged profilesLimits (h .profiles) (z .1);
       reals = reals .0;
       whole = whole;
       corners = w .0;

@@ -1,32 +1,139 @@
 -- Document 01, "Record A": its limits by name, the header that a block says, and what a header must obey.
-use Prim.Native.Nat.{ℕ, _^_, _+_, _*_}
-use mathlib.Core.Bool.{cond, Bool}
-use lib.Dec.{eqb, ltb}
-use mathlib.Core.List.{List}
-use lib.IntN.{pos, ℤ, natAbs}
-use Rattle.laws.specs.Sign.{notNegative, isZero, _and_}
+use mathlib.Core.Bool.{Bool, cond}
+use mathlib.Core.List.{List, [], _∷_}
+use Prim.Native.Nat.{ℕ, _+_, _*_, _^_}
+use lib.Dec.{ltb, eqb}
+use lib.IntN.{ℤ, pos, natAbs}
+use lib.ListN.{getD}
 use Rattle.laws.specs.Digits.{short}
+use Rattle.laws.specs.Sign.{isZero, notNegative, _and_}
 use Rattle.number.specs.Real.{real}
+use Rattle.field.specs.Field.{stretch, wholeAt, realAt, limits, inRange}
 use Rattle.field.specs.declared.Limits.{Limits}
-use Rattle.field.specs.Field.{limits, realAt, stretch, wholeAt, inRange}
+use Rattle.frame.specs.Frame.{wholeFault}
 use Rattle.frame.specs.declared.Corner.{Corner}
 use Rattle.frame.specs.declared.Header.{Header}
-use Rattle.frame.specs.Frame.{wholeFault}
+
+-- ---- the limits, each once: least, greatest, step, and the kind of the refusal; reals in billionths
 
 abbrev pub billion : ℕ
 billion = 10 ^ 9
 
--- "0; 1-60; 1-9999 respectively"
+-- level 1, 2, 3; pattern 1; system 0, 1, 2
+abbrev pub levelLimits : Limits
+levelLimits = limits 1 3 1 9
+
+abbrev pub patternLimits : Limits
+patternLimits = limits 1 1 1 9
+
+abbrev pub systemLimits : Limits
+systemLimits = limits 0 2 1 9
+
+-- the zone by the system: "0; 1-60; 1-9999 respectively"
 abbrev pub zoneLimits : ℕ → Limits
 zoneLimits system = cond (eqb system 0) (limits 0 0 1 9) (cond (eqb system 1) (limits 1 60 1 9) (limits 1 9999 1 9))
 
--- "geographic 3, UTM 2, state plane 1 or 2"
+-- the ground unit by the system: "geographic 3, UTM 2, state plane 1 or 2"
 abbrev pub groundLimits : ℕ → Limits
 groundLimits system = cond (eqb system 0) (limits 3 3 1 9) (cond (eqb system 1) (limits 2 2 1 9) (limits 1 2 1 9))
 
--- "z above 0, at most 1, multiple of 0.1 in feet, 0.01 in metres (7)"
+-- vertical unit 1, 2; sides 4; angle zero; accuracy 0, 1
+abbrev pub verticalLimits : Limits
+verticalLimits = limits 1 2 1 9
+
+abbrev pub sidesLimits : Limits
+sidesLimits = limits 4 4 1 9
+
+abbrev pub angleLimits : Limits
+angleLimits = limits 0 0 1 9
+
+abbrev pub accuracyLimits : Limits
+accuracyLimits = limits 0 1 1 9
+
+-- "x, y whole, 1-9999 (7)"
+abbrev pub spacingLimits : Limits
+spacingLimits = limits billion (9999 * billion) billion 7
+
+-- the z spacing by the vertical unit: in tenths of a foot, in hundredths of a metre, up to 1 (7)
 abbrev pub heightLimits : ℕ → Limits
 heightLimits vertical = cond (eqb vertical 1) (limits (10 ^ 8) billion (10 ^ 8) 7) (limits (10 ^ 7) billion (10 ^ 7) 7)
+
+-- m is 1 (9); n is 1-2048 (7)
+abbrev pub rankLimits : Limits
+rankLimits = limits 1 1 1 9
+
+abbrev pub profilesLimits : Limits
+profilesLimits = limits 1 2048 1 7
+
+-- ---- their names, as the table of record A and the code use them
+
+abbrev pub level : ℕ
+level = 0
+
+abbrev pub pattern : ℕ
+pattern = 1
+
+abbrev pub system : ℕ
+system = 2
+
+abbrev pub zone : ℕ
+zone = 3
+
+abbrev pub ground : ℕ
+ground = 4
+
+abbrev pub vertical : ℕ
+vertical = 5
+
+abbrev pub sides : ℕ
+sides = 6
+
+abbrev pub angle : ℕ
+angle = 7
+
+abbrev pub accuracy : ℕ
+accuracy = 8
+
+abbrev pub spacing : ℕ
+spacing = 9
+
+abbrev pub height : ℕ
+height = 10
+
+abbrev pub rank : ℕ
+rank = 11
+
+abbrev pub profiles : ℕ
+profiles = 12
+
+abbrev pub noLimits : Limits
+noLimits = limits 0 0 0 0
+
+-- those that go by no other field, in the order of their names
+abbrev pub fixedLimits : List Limits
+fixedLimits =
+    levelLimits
+    ∷ patternLimits
+    ∷ systemLimits
+    ∷ noLimits
+    ∷ noLimits
+    ∷ verticalLimits
+    ∷ sidesLimits
+    ∷ angleLimits
+    ∷ accuracyLimits
+    ∷ spacingLimits
+    ∷ noLimits
+    ∷ rankLimits
+    ∷ profilesLimits
+    ∷ []
+
+-- the limits of a name, by the system and the vertical unit
+abbrev pub limitsOf : ℕ → ℕ → ℕ → Limits
+limitsOf name s v =
+    cond (eqb name 3) (zoneLimits s)
+    (cond (eqb name 4) (groundLimits s) (cond (eqb name 10) (heightLimits v) (getD fixedLimits name noLimits)))
+
+-- ---- the header of a block
 
 -- "each x then y"
 abbrev pub cornerAt : ℕ → List ℕ → Corner
@@ -55,6 +162,36 @@ headerOf block =
       zstep = spacingAt 841 block;
       profiles = wholeAt 859 block;
     }
+
+-- ---- what a header obeys
+
+-- a number of the header stands in the limits of its name
+abbrev pub stands : ℕ → Header → ℕ → Bool
+stands name h v = inRange (limitsOf name (h .system) (h .vertical)) v
+
+abbrev pub fieldsObey : Header → Bool
+fieldsObey h =
+    stands level h (h .level) and stands system h (h .system) and stands zone h (h .zone) and stands ground h (h .ground)
+    and stands vertical h (h .vertical) and stands accuracy h (h .accuracy) and stands spacing h (h .xstep)
+    and stands spacing h (h .ystep) and stands height h (h .zstep) and stands profiles h (h .profiles)
+
+-- what a real field can hold
+abbrev pub isRealNumber : ℤ → Bool
+isRealNumber z = ltb (natAbs z) (10 ^ 18) and short 18 15 (natAbs z)
+
+abbrev pub cornerReal : Corner → Bool
+cornerReal c = isRealNumber (c .x) and isRealNumber (c .y)
+
+abbrev pub realsObey : Header → Bool
+realsObey h =
+    cornerReal (h .sw) and cornerReal (h .nw) and cornerReal (h .ne) and cornerReal (h .se)
+    and isRealNumber (h .least) and isRealNumber (h .greatest)
+
+-- and the rules over the whole record
+abbrev pub headerObeys : Header → Bool
+headerObeys h = fieldsObey h and realsObey h and eqb (wholeFault h .kind) 0
+
+-- ---- fresh: all fields zero
 
 abbrev pub freshCorner : Corner
 freshCorner = record { x = pos 0; y = pos 0 }
@@ -89,33 +226,3 @@ zeroHeader h =
     and zeroCorner (h .sw) and zeroCorner (h .nw) and zeroCorner (h .ne) and zeroCorner (h .se)
     and isZero (h .least) and isZero (h .greatest) and eqb (h .accuracy) 0
     and eqb (h .xstep) 0 and eqb (h .ystep) 0 and eqb (h .zstep) 0 and eqb (h .profiles) 0
-
--- what a real field can hold
-abbrev pub isRealNumber : ℤ → Bool
-isRealNumber z = ltb (natAbs z) (10 ^ 18) and short 18 15 (natAbs z)
-
-abbrev pub cornerReal : Corner → Bool
-cornerReal c = isRealNumber (c .x) and isRealNumber (c .y)
-
--- "its header numbers obey record A": the fields' rules
-abbrev pub fieldsObey : Header → Bool
-fieldsObey h =
-    inRange (limits 1 3 1 9) (h .level) and inRange (limits 0 2 1 9) (h .system) and inRange (zoneLimits (h .system)) (h .zone)
-    and inRange (groundLimits (h .system)) (h .ground) and inRange (limits 1 2 1 9) (h .vertical)
-    and inRange (limits 0 1 1 9) (h .accuracy) and inRange (limits billion (9999 * billion) billion 7) (h .xstep)
-    and inRange (limits billion (9999 * billion) billion 7) (h .ystep) and inRange (heightLimits (h .vertical)) (h .zstep)
-    and inRange (limits 1 2048 1 7) (h .profiles)
-
-abbrev pub realsObey : Header → Bool
-realsObey h =
-    cornerReal (h .sw) and cornerReal (h .nw) and cornerReal (h .ne) and cornerReal (h .se)
-    and isRealNumber (h .least) and isRealNumber (h .greatest)
-
--- and the rules over the whole record
-abbrev pub headerObeys : Header → Bool
-headerObeys h = fieldsObey h and realsObey h and eqb (wholeFault h .kind) 0
-
-abbrev pub spacingsObey : Header → Bool
-spacingsObey h =
-    inRange (limits billion (9999 * billion) billion 7) (h .xstep) and inRange (limits billion (9999 * billion) billion 7) (h .ystep)
-    and inRange (heightLimits (h .vertical)) (h .zstep) and inRange (limits 1 2048 1 7) (h .profiles)

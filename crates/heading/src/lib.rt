@@ -7,11 +7,47 @@ use figures::is_zero;
 use frame::Corner;
 use frame::Header;
 ghost use mathlib.Core.Path.{_≡_};
-ghost use Rattle.laws.specs.Digits.{short};
-ghost use Rattle.field.specs.Field.{inRange, limits};
-ghost use Rattle.heading.specs.Heading.{zoneLimits, groundLimits, heightLimits, isRealNumber, cornerReal, fieldsObey, realsObey, headerObeys, spacingsObey, zeroCorner, zeroHeader};
+ghost use Prim.Native.Nat.{_<_};
+ghost use lib.ListN.{getD};
+ghost use Rattle.heading.specs.Heading.{zoneLimits, groundLimits, heightLimits, fixedLimits, noLimits, limitsOf, stands, isRealNumber, cornerReal, fieldsObey, realsObey, headerObeys, zeroCorner, zeroHeader};
+ghost use Rattle.heading.specs.Steps.{spacingsObey};
 
-pub fn zone_limits(system: u64) -> Limits
+// The names of record A's limits, in the order of the tables below.
+pub const LEVEL: usize = 0;
+
+pub const PATTERN: usize = 1;
+
+pub const SYSTEM: usize = 2;
+
+pub const ZONE: usize = 3;
+
+pub const GROUND: usize = 4;
+
+pub const VERTICAL: usize = 5;
+
+pub const SIDES: usize = 6;
+
+pub const ANGLE: usize = 7;
+
+pub const ACCURACY: usize = 8;
+
+pub const SPACING: usize = 9;
+
+pub const HEIGHT: usize = 10;
+
+pub const RANK: usize = 11;
+
+pub const PROFILES: usize = 12;
+
+const LEAST: [u64; 13] = [1, 1, 0, 0, 0, 1, 4, 0, 0, 1000000000, 0, 1, 1];
+
+const GREATEST: [u64; 13] = [3, 1, 2, 0, 0, 2, 4, 0, 1, 9999000000000, 0, 1, 2048];
+
+const STEP: [u64; 13] = [1, 1, 1, 0, 0, 1, 1, 1, 1, 1000000000, 0, 1, 1];
+
+const KIND: [u32; 13] = [9, 9, 9, 0, 0, 9, 9, 9, 9, 7, 0, 9, 7];
+
+fn zone_limits(system: u64) -> Limits
     ensures { λ r. ⌜ r ≡ zoneLimits system ⌝ }
 {
     if system == 0 {
@@ -23,7 +59,7 @@ pub fn zone_limits(system: u64) -> Limits
     field::limits_of(1, 9999, 1, 9)
 }
 
-pub fn ground_limits(system: u64) -> Limits
+fn ground_limits(system: u64) -> Limits
     ensures { λ r. ⌜ r ≡ groundLimits system ⌝ }
 {
     if system == 0 {
@@ -35,7 +71,7 @@ pub fn ground_limits(system: u64) -> Limits
     field::limits_of(1, 2, 1, 9)
 }
 
-pub fn height_limits(vertical: u64) -> Limits
+fn height_limits(vertical: u64) -> Limits
     ensures { λ r. ⌜ r ≡ heightLimits vertical ⌝ }
 {
     if vertical == 1 {
@@ -44,27 +80,72 @@ pub fn height_limits(vertical: u64) -> Limits
     field::limits_of(10000000, 1000000000, 10000000, 7)
 }
 
-// At most 15 digits from the first to the last that is not zero.
-fn is_short(n: u64) -> bool
-    ensures { λ r. ⌜ r ≡ short 18 15 n ⌝ }
+// Limits that go by no other field.
+fn fixed_limits(name: usize) -> Limits
+    requires { ⌜ name < 13 ⌝ }
+    ensures { λ r. ⌜ r ≡ getD fixedLimits name noLimits ⌝ }
 {
-    if n >= 100000000000000000 {
-        return n % 1000 == 0;
+    Limits {
+        least: LEAST[name],
+        greatest: GREATEST[name],
+        step: STEP[name],
+        kind: KIND[name],
     }
-    if n >= 10000000000000000 {
-        return n % 100 == 0;
+}
+
+// The limits of a name, by the system and the vertical unit; a name that is none has limits that nothing keeps but 0.
+pub fn named_limits(name: usize, system: u64, vertical: u64) -> Limits
+    ensures { λ r. ⌜ r ≡ limitsOf name system vertical ⌝ }
+{
+    if name == ZONE {
+        return zone_limits(system);
     }
-    if n >= 1000000000000000 {
-        return n % 10 == 0;
+    if name == GROUND {
+        return ground_limits(system);
     }
-    true
+    if name == HEIGHT {
+        return height_limits(vertical);
+    }
+    if PROFILES < name {
+        return field::limits_of(0, 0, 0, 0);
+    }
+    fixed_limits(name)
+}
+
+// A number of the header stands in the limits of its name.
+fn stands_in(name: usize, h: Header, v: u64) -> bool
+    ensures { λ r. ⌜ r ≡ stands name h v ⌝ }
+{
+    field::in_range(named_limits(name, h.system, h.vertical), v)
+}
+
+fn spacings_obey(h: Header) -> bool
+    ensures { λ r. ⌜ r ≡ spacingsObey h ⌝ }
+{
+    let x = stands_in(SPACING, h, h.xstep);
+    let y = stands_in(SPACING, h, h.ystep);
+    let z = stands_in(HEIGHT, h, h.zstep);
+    all4(x, y, z, stands_in(PROFILES, h, h.profiles))
+}
+
+fn fields_obey(h: Header) -> bool
+    ensures { λ r. ⌜ r ≡ fieldsObey h ⌝ }
+{
+    let level = stands_in(LEVEL, h, h.level);
+    let system = stands_in(SYSTEM, h, h.system);
+    let zone = stands_in(ZONE, h, h.zone);
+    let ground = stands_in(GROUND, h, h.ground);
+    let vertical = stands_in(VERTICAL, h, h.vertical);
+    let accuracy = stands_in(ACCURACY, h, h.accuracy);
+    let rest = all4(ground, vertical, accuracy, spacings_obey(h));
+    all4(level, system, zone, rest)
 }
 
 pub fn is_real_number(z: i64) -> bool
     ensures { λ r. ⌜ r ≡ isRealNumber z ⌝ }
 {
     let n = number::size_of(z);
-    both(n < 1000000000000000000, is_short(n))
+    both(n < 1000000000000000000, numerals::is_short(15, n))
 }
 
 fn corner_real(c: Corner) -> bool
@@ -86,49 +167,6 @@ fn reals_obey(h: Header) -> bool
         is_real_number(h.greatest),
     );
     all4(corner_real(sw), corner_real(nw), corner_real(ne), rest)
-}
-
-fn stands_in(least: u64, greatest: u64, step: u64, v: u64) -> bool
-    ensures { λ r. ⌜ r ≡ inRange (limits least greatest step 0) v ⌝ }
-{
-    field::in_range(field::limits_of(least, greatest, step, 0), v)
-}
-
-fn zone_obeys(h: Header) -> bool
-    ensures { λ r. ⌜ r ≡ inRange (zoneLimits (h .system)) (h .zone) ⌝ }
-{
-    field::in_range(zone_limits(h.system), h.zone)
-}
-
-fn ground_obeys(h: Header) -> bool
-    ensures { λ r. ⌜ r ≡ inRange (groundLimits (h .system)) (h .ground) ⌝ }
-{
-    field::in_range(ground_limits(h.system), h.ground)
-}
-
-fn height_obeys(h: Header) -> bool
-    ensures { λ r. ⌜ r ≡ inRange (heightLimits (h .vertical)) (h .zstep) ⌝ }
-{
-    field::in_range(height_limits(h.vertical), h.zstep)
-}
-
-fn spacings_obey(h: Header) -> bool
-    ensures { λ r. ⌜ r ≡ spacingsObey h ⌝ }
-{
-    let x = stands_in(1000000000, 9999000000000, 1000000000, h.xstep);
-    let y = stands_in(1000000000, 9999000000000, 1000000000, h.ystep);
-    all4(x, y, height_obeys(h), stands_in(1, 2048, 1, h.profiles))
-}
-
-fn fields_obey(h: Header) -> bool
-    ensures { λ r. ⌜ r ≡ fieldsObey h ⌝ }
-{
-    let level = stands_in(1, 3, 1, h.level);
-    let system = stands_in(0, 2, 1, h.system);
-    let vertical = stands_in(1, 2, 1, h.vertical);
-    let accuracy = stands_in(0, 1, 1, h.accuracy);
-    let rest = all4(ground_obeys(h), vertical, accuracy, spacings_obey(h));
-    all4(level, system, zone_obeys(h), rest)
 }
 
 pub fn header_obeys(h: Header) -> bool

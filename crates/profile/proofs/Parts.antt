@@ -1,23 +1,14 @@
--- A field's stretch as the code cuts it out, and an error's value by the machine's tests of its sign.
-use mathlib.Core.List.{List}
-use mathlib.Core.Path.{_≡_, ap, refl}
-use Prim.Native.Nat.{ℕ, _+_, _-_, _<_}
+-- An error's value by the machine's tests of its sign.
+use mathlib.Core.Path.{_≡_, refl}
+use Prim.Native.Nat.{_<_}
 use native.Mathlib.Omega.{arith}
-use lib.ListN.{take, drop}
 use borrow.Author.Tests.{le-ltb, ltb-true, ne-eqb, ltb-false, eq-eqb}
 use lib.IntN.{ℤ, pos, negsuc}
 use lib.Signed.{ltZ}
 use mathlib.Core.Bool.{true, false}
 use Rattle.laws.specs.Sign.{isZero}
 use Rattle.laws.proofs.Tests.{clash}
-use Rattle.field.specs.Field.{stretch}
 use Rattle.profile.specs.RecordC.{isNegative}
-
-pub cut-out : (width byte : ℕ) (block : List ℕ)
-    → take (byte - 1 + width - (byte - 1)) (drop (byte - 1) block) ≡ stretch byte width block
-cut-out width byte block =
-    let e : byte - 1 + width - (byte - 1) ≡ width = omega arith in
-    ap (λ (n : ℕ). take n (drop (byte - 1) block)) e
 
 pub negative-is : (z : ℤ) → ltZ z (pos 0) ≡ isNegative z
 negative-is (pos n) = le-ltb n 0 (omega arith)

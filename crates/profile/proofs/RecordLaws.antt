@@ -19,11 +19,11 @@ use Rattle.number.specs.declared.Reading.{Reading}
 use Rattle.number.specs.Integer.{refused, integer}
 use Rattle.number.specs.Real.{real}
 use Rattle.number.proofs.Limits.{Limited, real-limits}
-use Rattle.field.specs.Field.{Judged, firstOf, fault, inLimits, limits, stretch, realAt}
+use Rattle.field.specs.Field.{Judged, firstOf, fault, inLimits, limits, restFault, stretch, realAt}
 use Rattle.field.specs.declared.Fault.{Fault}
 use Rattle.field.specs.declared.Limits.{Limits}
 use Rattle.profile.specs.RecordB.{headFields, headFault, headOf, recordB, hundredths, isDatum}
-use Rattle.profile.specs.RecordC.{fieldsC, restBlank, recordC}
+use Rattle.profile.specs.RecordC.{fieldsC, recordC}
 use Rattle.profile.specs.declared.record_b.Head.{Head}
 use Rattle.profile.specs.declared.record_b.Headed.the-variants.{Profile, Refused}
 
@@ -93,7 +93,7 @@ module _ (block : List ℕ) where
   fieldFault = firstOf (fieldsC block)
 
   -- a fault of the rest comes after those of the fields
-  rest-last : cond (eqb (fieldFault .kind) 0) (restBlank block) fieldFault .kind ≡ 0
+  rest-last : cond (eqb (fieldFault .kind) 0) (restFault 61 block) fieldFault .kind ≡ 0
       → (fieldFault .kind ≡ 0) × (every isBlank (drop 60 block) ≡ true)
   rest-last z =
       by-test (eqb (fieldFault .kind) 0)
@@ -107,7 +107,7 @@ module _ (block : List ℕ) where
   c-read : recordC block ≡ fault 0 0 → CRead
   unfolding recordC
   c-read p =
-      let l = length-first (cond (eqb (fieldFault .kind) 0) (restBlank block) fieldFault) (ap (λ (f : Fault). f .kind) p) in
+      let l = length-first (cond (eqb (fieldFault .kind) 0) (restFault 61 block) fieldFault) (ap (λ (f : Fault). f .kind) p) in
       let r = rest-last (l .1) in
       (l .0, all-read (fieldsC block) (r .0), r .1)
 

@@ -10,7 +10,7 @@ use Rattle.laws.specs.Texts.{every}
 use Rattle.number.specs.Integer.{integer, refused}
 use Rattle.number.specs.declared.Reading.{Reading}
 use Rattle.number.specs.Bytes.{isBlank}
-use Rattle.field.specs.Field.{stretch, limits, ranged, Judged, at, wholeAt, fault, firstOf}
+use Rattle.field.specs.Field.{restFault, stretch, limits, ranged, Judged, at, wholeAt, fault, firstOf}
 use Rattle.field.specs.declared.Fault.{Fault}
 
 -- "Codes 0 or 1 (9)"
@@ -45,12 +45,9 @@ halfFields byte block =
 abbrev pub fieldsC : List ℕ → List Judged
 fieldsC block = halfFields 1 block ++ halfFields 31 block
 
-abbrev pub restBlank : List ℕ → Fault
-restBlank block = cond (every isBlank (drop 60 block)) (fault 0 0) (fault 5 61)
-
 -- the first fault of a record C; a block of another length is 1 at 0
 unfoldable pub recordC : List ℕ → Fault
 recordC block =
     cond (eqb (length block) 1024)
-    (cond (eqb (firstOf (fieldsC block) .kind) 0) (restBlank block) (firstOf (fieldsC block)))
+    (cond (eqb (firstOf (fieldsC block) .kind) 0) (restFault 61 block) (firstOf (fieldsC block)))
     (fault 1 0)

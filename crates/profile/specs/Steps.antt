@@ -15,12 +15,6 @@ use Rattle.profile.specs.RecordB.{datumField, hundredths}
 use Rattle.profile.specs.declared.record_b.Head.{Head}
 use Rattle.profile.specs.RecordC.{errorReading}
 
--- a stretch of this width, from a byte counted from 1, lies in a block of the right length
-pub record Inside (width : ℕ) (block : List ℕ) (byte : ℕ) : Type 0 where
-  pub long : length block ≡ 1024
-  pub from : 1 ≤ byte
-  pub to : byte + width ≤ 1025
-
 abbrev pub realsOf : List ℕ → Reals
 realsOf block =
     record {

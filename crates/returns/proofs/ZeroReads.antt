@@ -2,7 +2,7 @@
 use mathlib.Core.List.{List, [], _∷_, _++_, map}
 use Prim.Native.Nat.{ℕ, zero, suc, _+_, _<_, _≤_, _%_, _*_, _-_}
 use lib.ListN.{getD, length, take, drop}
-use mathlib.Core.Bool.{true}
+use mathlib.Core.Bool.{true, cond}
 use mathlib.Core.Path.{_≡_, sym, _∙_, ap, refl}
 use native.Mathlib.Nat.{le-of-suc-le-suc, not-suc-le-zero}
 use lib.Seq.{take-at, drop-append-add, take-take, drop-drop}
@@ -17,18 +17,35 @@ use Rattle.laws.proofs.Tests.{and-second, by-test, and-both, and-first}
 use Rattle.number.specs.Integer.{integer, read}
 use Rattle.number.specs.Real.{real}
 use Rattle.number.specs.declared.Reading.{Reading}
-use Rattle.field.specs.Field.{stretch, inRange, ranged, limits, wholeAt}
+use Rattle.field.specs.Field.{stretch, inRange, ranged, wholeAt}
 use Rattle.field.specs.declared.Limits.{Limits}
 use Rattle.frame.specs.declared.Header.{Header}
 use Rattle.frame.specs.Frame.{columnsOf, rowsOf, oneTo2048, wholeFault}
-use Rattle.heading.specs.Heading.{zoneLimits, groundLimits, heightLimits, billion, fieldsObey, headerObeys, headerOf}
+use Rattle.heading.specs.Heading.{
+  levelLimits,
+  patternLimits,
+  systemLimits,
+  zoneLimits,
+  groundLimits,
+  verticalLimits,
+  sidesLimits,
+  angleLimits,
+  accuracyLimits,
+  spacingLimits,
+  heightLimits,
+  rankLimits,
+  profilesLimits,
+  fieldsObey,
+  headerObeys,
+  headerOf,
+}
 use Rattle.heading.proofs.HeadingFacts.{Ranged, Heading, header-facts}
 use Rattle.sheet.specs.RecordA.{Row, judgeRow, firstFault, recordA, rows, fields, judge, faultOf}
 use Rattle.sheet.specs.declared.Checked.the-variants.{Sheet}
 use Rattle.sheet.specs.RecordA.Rule.{words, form}
-use Rattle.sheet.specs.RecordASteps.{rowAt}
+use Rattle.sheet.specs.RecordASteps.{placeOf, rowFrom}
 use Rattle.sheet.proofs.RulesA.{sheet-exactly, sheet-fine}
-use Rattle.sheet.proofs.HeaderA.{row-fine, verdict-sheet}
+use Rattle.sheet.proofs.HeaderA.{field-fine, verdict-sheet}
 use Rattle.sheet.proofs.SheetObeys.{sheet-obeys}
 use Rattle.ground.specs.Extremes.{leastStated, greatestStated}
 use Rattle.spell.specs.Spell.{realFits}
@@ -42,6 +59,11 @@ use Rattle.returns.specs.Header.{headerSent}
 
 abbrev pieceOf : List Piece → ℕ → Piece
 pieceOf ps i = getD ps i nothing
+
+-- how many of them stand before so many bytes are full
+abbrev piecesTo : ℕ → List Piece → ℕ
+piecesTo n [] = 0
+piecesTo n (p ∷ ps) = cond (eqb n 0) 0 (suc (piecesTo (n - pieceWidth p) ps))
 
 module _ (template : List ℕ) (long : length template ≡ 1024) where
   abbrev textOf : List Piece → List ℕ
@@ -117,7 +139,7 @@ template-length template h is = sheet-exactly template .0 (h, is) .0
 ranged-read : (l : Limits) (v : ℕ) (r : Reading) → r ≡ read (pos v) → inRange l v ≡ true → ranged l r .kind ≡ 0
 ranged-read l v r e t = rw (e, t)
 
-limits-read : (l : Limits) (v : ℕ) (r : Reading) → r ≡ read (pos v) → Ranged (l .least) (l .greatest) (l .step) v → ranged l r .kind ≡ 0
+limits-read : (l : Limits) (v : ℕ) (r : Reading) → r ≡ read (pos v) → Ranged l v → ranged l r .kind ≡ 0
 limits-read l v r e b =
     ranged-read l v r e
     (and-both (le-leb (l .least) v (b .least)) (and-both (le-leb v (l .greatest) (b .greatest)) (eq-eqb (v % l .step) 0 (b .step))))
@@ -125,14 +147,14 @@ limits-read l v r e b =
 -- the z spacing's are the ninth that a header keeps
 height-limits : (h : Header) → headerObeys h ≡ true → inRange (heightLimits (h .vertical)) (h .zstep) ≡ true
 height-limits h t =
-    let level = and-second (inRange (limits 1 3 1 9) (h .level)) _ (and-first (fieldsObey h) _ t) in
-    let system = and-second (inRange (limits 0 2 1 9) (h .system)) _ level in
+    let level = and-second (inRange levelLimits (h .level)) _ (and-first (fieldsObey h) _ t) in
+    let system = and-second (inRange systemLimits (h .system)) _ level in
     let zone = and-second (inRange (zoneLimits (h .system)) (h .zone)) _ system in
     let ground = and-second (inRange (groundLimits (h .system)) (h .ground)) _ zone in
-    let vertical = and-second (inRange (limits 1 2 1 9) (h .vertical)) _ ground in
-    let accuracy = and-second (inRange (limits 0 1 1 9) (h .accuracy)) _ vertical in
-    let x = and-second (inRange (limits billion (9999 * billion) billion 7) (h .xstep)) _ accuracy in
-    let y = and-second (inRange (limits billion (9999 * billion) billion 7) (h .ystep)) _ x in
+    let vertical = and-second (inRange verticalLimits (h .vertical)) _ ground in
+    let accuracy = and-second (inRange accuracyLimits (h .accuracy)) _ vertical in
+    let x = and-second (inRange spacingLimits (h .xstep)) _ accuracy in
+    let y = and-second (inRange spacingLimits (h .ystep)) _ x in
     and-first (inRange (heightLimits (h .vertical)) (h .zstep)) _ y
 
 -- ---- block 0
@@ -158,11 +180,14 @@ module _ (template : List ℕ) (h : Header) (grid : List ℤ) (is : recordA temp
   fit : all pieceFits ps ≡ true
   fit = all-fit h (leastStated (sheetCells h grid)) (greatestStated (sheetCells h grid)) (columnsOf h) obeys fl fg (heading .columns .1)
 
-  -- each piece at its place, read back: piece i of the table
-  back : (i : ℕ) → i < 27 → ReadsBack template (pieceOf ps i) (take (pieceWidth (pieceOf ps i)) (drop (bytesBefore ps i) sent))
+  -- each piece at its place, read back: the one that begins at this byte
+  back : (first : ℕ) → piecesTo (first - 1) ps < 27
+      → ReadsBack template (pieceOf ps (piecesTo (first - 1) ps))
+      (take (pieceWidth (pieceOf ps (piecesTo (first - 1) ps))) (drop (bytesBefore ps (piecesTo (first - 1) ps)) sent))
   unfolding blockZero piecesBy
-  back i l =
+  back first l =
       let long = template-length template h is in
+      let i = piecesTo (first - 1) ps in
       reads-back template (pieceOf ps i) (fit-at ps fit i) _ (piece-begins template long ps fit i l)
 
   long : length sent ≡ 1024
@@ -174,14 +199,14 @@ module _ (template : List ℕ) (h : Header) (grid : List ℤ) (is : recordA temp
 
   system-is : wholeAt 157 sent ≡ h .system
   unfolding piecesBy
-  system-is = ap number (back 3 (lit< tt))
+  system-is = ap number (back 157 (lit< tt))
 
   vertical-is : wholeAt 535 sent ≡ h .vertical
   unfolding piecesBy
-  vertical-is = ap number (back 7 (lit< tt))
+  vertical-is = ap number (back 535 (lit< tt))
 
-  template-row : (i : ℕ) → i < 41 → judgeRow template (rowAt i) .kind ≡ 0
-  template-row = row-fine template (sheet-fine template is)
+  template-field : (first : ℕ) → placeOf first < 41 → judgeRow template (rowFrom first) .kind ≡ 0
+  template-field = field-fine template (sheet-fine template is)
 
   forms-read : (n first : ℕ) (rs : List Row) → 169 ≤ first → first + n * 24 ≤ 529
       → Reads template (rows n first 24 form ++ rs) → Reads sent rs → Reads sent (rows n first 24 form ++ rs)
@@ -191,7 +216,7 @@ module _ (template : List ℕ) (h : Header) (grid : List ℤ) (is : recordA temp
       let k = first - 169 in
       let e : first - 1 ≡ 168 + k = omega (arith, a) in
       let same : stretch first 24 sent ≡ stretch first 24 template =
-      rw e (shared sent template 168 360 k 24 (omega (arith, a, b)) (back 5 (lit< tt)))
+      rw e (shared sent template 168 360 k 24 (omega (arith, a, b)) (back 169 (lit< tt)))
       in
       reads (ap (λ (f : List ℕ). judge form 0 0 f .kind) same ∙ z)
       (forms-read n (first + 24) rs (omega (arith, a)) (omega (arith, b)) t s)
@@ -199,45 +224,42 @@ module _ (template : List ℕ) (h : Header) (grid : List ℤ) (is : recordA temp
   abbrev kindOf : Reading → ℕ
   kindOf r = r .kind
 
-  abbrev steps : Limits
-  steps = limits billion (9999 * billion) billion 7
-
   rows-read : Reads sent fields
   unfolding fields piecesBy
   rows-read =
-      reads (ap (λ (f : List ℕ). judge words 0 0 f .kind) (back 0 (lit< tt)) ∙ template-row 0 (lit< tt))
-      (reads (limits-read (limits 1 3 1 9) (h .level) _ (back 1 (lit< tt)) (heading .level))
-      (reads (ranged-read (limits 1 1 1 9) 1 _ (back 2 (lit< tt)) refl)
-      (reads (limits-read (limits 0 2 1 9) (h .system) _ (back 3 (lit< tt)) (record { least = omega arith; greatest = heading .system; step = omega arith }))
+      reads (ap (λ (f : List ℕ). judge words 0 0 f .kind) (back 1 (lit< tt)) ∙ template-field 1 (lit< tt))
+      (reads (limits-read levelLimits (h .level) _ (back 145 (lit< tt)) (heading .level))
+      (reads (ranged-read patternLimits 1 _ (back 151 (lit< tt)) refl)
+      (reads (limits-read systemLimits (h .system) _ (back 157 (lit< tt)) (heading .system))
       (reads
       (ap (λ (s : ℕ). ranged (zoneLimits s) (integer (stretch 163 6 sent)) .kind) system-is
-      ∙ ranged-read (zoneLimits (h .system)) (h .zone) _ (back 4 (lit< tt)) (heading .zone))
-      (forms-read 15 169 _ (omega arith) (omega arith) (reads-behind template fields 5 template-reads)
+      ∙ ranged-read (zoneLimits (h .system)) (h .zone) _ (back 163 (lit< tt)) (heading .zone))
+      (forms-read 15 169 _ (omega arith) (omega arith) (reads-behind template fields (placeOf 169) template-reads)
       (reads
       (ap (λ (s : ℕ). ranged (groundLimits s) (integer (stretch 529 6 sent)) .kind) system-is
-      ∙ ranged-read (groundLimits (h .system)) (h .ground) _ (back 6 (lit< tt)) (heading .ground))
-      (reads (limits-read (limits 1 2 1 9) (h .vertical) _ (back 7 (lit< tt)) (heading .vertical))
-      (reads (ranged-read (limits 4 4 1 9) 4 _ (back 8 (lit< tt)) refl)
-      (reads (ap kindOf (back 9 (lit< tt)))
-      (reads (ap kindOf (back 10 (lit< tt)))
-      (reads (ap kindOf (back 11 (lit< tt)))
-      (reads (ap kindOf (back 12 (lit< tt)))
-      (reads (ap kindOf (back 13 (lit< tt)))
-      (reads (ap kindOf (back 14 (lit< tt)))
-      (reads (ap kindOf (back 15 (lit< tt)))
-      (reads (ap kindOf (back 16 (lit< tt)))
-      (reads (ap kindOf (back 17 (lit< tt)))
-      (reads (ap kindOf (back 18 (lit< tt)))
-      (reads (ranged-read (limits 0 0 1 9) 0 _ (back 19 (lit< tt)) refl)
-      (reads (ranged-read (limits 0 1 1 9) 0 _ (back 20 (lit< tt)) refl)
-      (reads (limits-read steps (h .xstep) _ (back 21 (lit< tt)) (heading .xstep))
-      (reads (limits-read steps (h .ystep) _ (back 22 (lit< tt)) (heading .ystep))
+      ∙ ranged-read (groundLimits (h .system)) (h .ground) _ (back 529 (lit< tt)) (heading .ground))
+      (reads (limits-read verticalLimits (h .vertical) _ (back 535 (lit< tt)) (heading .vertical))
+      (reads (ranged-read sidesLimits 4 _ (back 541 (lit< tt)) refl)
+      (reads (ap kindOf (back 547 (lit< tt)))
+      (reads (ap kindOf (back 571 (lit< tt)))
+      (reads (ap kindOf (back 595 (lit< tt)))
+      (reads (ap kindOf (back 619 (lit< tt)))
+      (reads (ap kindOf (back 643 (lit< tt)))
+      (reads (ap kindOf (back 667 (lit< tt)))
+      (reads (ap kindOf (back 691 (lit< tt)))
+      (reads (ap kindOf (back 715 (lit< tt)))
+      (reads (ap kindOf (back 739 (lit< tt)))
+      (reads (ap kindOf (back 763 (lit< tt)))
+      (reads (ranged-read angleLimits 0 _ (back 787 (lit< tt)) refl)
+      (reads (ranged-read accuracyLimits 0 _ (back 811 (lit< tt)) refl)
+      (reads (limits-read spacingLimits (h .xstep) _ (back 817 (lit< tt)) (heading .xstep))
+      (reads (limits-read spacingLimits (h .ystep) _ (back 829 (lit< tt)) (heading .ystep))
       (reads
       (ap (λ (v : ℕ). ranged (heightLimits v) (real (stretch 841 12 sent)) .kind) vertical-is
-      ∙ ranged-read (heightLimits (h .vertical)) (h .zstep) _ (back 23 (lit< tt)) (height-limits h obeys))
-      (reads (ranged-read (limits 1 1 1 9) 1 _ (back 24 (lit< tt)) refl)
-      (reads (limits-read (limits 1 2048 1 7) (columnsOf h) _ (back 25 (lit< tt)) (record { least = heading .columns .0; greatest = heading .columns .1; step = omega arith }))
-      (reads (ap (λ (f : List ℕ). judge words 0 0 f .kind) (back 26 (lit< tt)) ∙ template-row 40 (lit< tt))
+      ∙ ranged-read (heightLimits (h .vertical)) (h .zstep) _ (back 841 (lit< tt)) (height-limits h obeys))
+      (reads (ranged-read rankLimits 1 _ (back 853 (lit< tt)) refl)
+      (reads (limits-read profilesLimits (columnsOf h) _ (back 859 (lit< tt)) (record { least = heading .columns .0; greatest = heading .columns .1; step = omega arith }))
+      (reads (ap (λ (f : List ℕ). judge words 0 0 f .kind) (back 865 (lit< tt)) ∙ template-field 865 (lit< tt))
       done))))))))))))))))))))))))))
 
   -- ---- the header, and the whole record
@@ -246,22 +268,22 @@ module _ (template : List ℕ) (h : Header) (grid : List ℤ) (is : recordA temp
   zero-header =
       λ j.
       record {
-        level = number (back 1 (lit< tt) j);
-        system = number (back 3 (lit< tt) j);
-        zone = number (back 4 (lit< tt) j);
-        ground = number (back 6 (lit< tt) j);
-        vertical = number (back 7 (lit< tt) j);
-        sw = record { x = back 9 (lit< tt) j .value; y = back 10 (lit< tt) j .value };
-        nw = record { x = back 11 (lit< tt) j .value; y = back 12 (lit< tt) j .value };
-        ne = record { x = back 13 (lit< tt) j .value; y = back 14 (lit< tt) j .value };
-        se = record { x = back 15 (lit< tt) j .value; y = back 16 (lit< tt) j .value };
-        least = back 17 (lit< tt) j .value;
-        greatest = back 18 (lit< tt) j .value;
-        accuracy = number (back 20 (lit< tt) j);
-        xstep = number (back 21 (lit< tt) j);
-        ystep = number (back 22 (lit< tt) j);
-        zstep = number (back 23 (lit< tt) j);
-        profiles = number (back 25 (lit< tt) j);
+        level = number (back 145 (lit< tt) j);
+        system = number (back 157 (lit< tt) j);
+        zone = number (back 163 (lit< tt) j);
+        ground = number (back 529 (lit< tt) j);
+        vertical = number (back 535 (lit< tt) j);
+        sw = record { x = back 547 (lit< tt) j .value; y = back 571 (lit< tt) j .value };
+        nw = record { x = back 595 (lit< tt) j .value; y = back 619 (lit< tt) j .value };
+        ne = record { x = back 643 (lit< tt) j .value; y = back 667 (lit< tt) j .value };
+        se = record { x = back 691 (lit< tt) j .value; y = back 715 (lit< tt) j .value };
+        least = back 739 (lit< tt) j .value;
+        greatest = back 763 (lit< tt) j .value;
+        accuracy = number (back 811 (lit< tt) j);
+        xstep = number (back 817 (lit< tt) j);
+        ystep = number (back 829 (lit< tt) j);
+        zstep = number (back 841 (lit< tt) j);
+        profiles = number (back 859 (lit< tt) j);
       }
 
   one-to : (n : ℕ) → (1 ≤ n) × (n ≤ 2048) → oneTo2048 n ≡ true

@@ -11,9 +11,6 @@ ghost use mathlib.Core.Path.{_≡_};
 ghost use Prim.Native.Nat.{_+_};
 ghost use lib.Dec.{leb};
 ghost use lib.IntN.{natAbs};
-ghost use Rattle.laws.specs.Digits.{short};
-ghost use Rattle.field.specs.Field.{inRange, limits};
-ghost use Rattle.heading.specs.Heading.{zoneLimits, groundLimits, heightLimits, isRealNumber, cornerReal, fieldsObey, realsObey, headerObeys, spacingsObey};
 ghost use Rattle.session.specs.Session.{busy, profileObeys, openRead, openBlocks, extremesObey, closedObeys, columnObeys, postsObey, finishObeys, takenObeys, begunObeys};
 ghost use Rattle.session.specs.Steps.{readObeys, placesObey, countsObey, Bounded};
 

@@ -17,15 +17,15 @@ use Rattle.number.specs.Integer.{integer, integerForm, unsignedPart}
 use Rattle.number.specs.Real.{billionths, real, realForm}
 use Rattle.number.proofs.Fields.{within-good}
 use Rattle.number.proofs.Grammar.{Fits}
-use Rattle.field.specs.Field.{fault, inLimits, ranged, isWord, limits, stretch, wholeAt}
+use Rattle.field.specs.Field.{fault, inLimits, ranged, isWord, stretch, wholeAt}
 use Rattle.field.specs.declared.Fault.{Fault}
 use Rattle.field.specs.declared.Limits.{Limits}
 use Rattle.field.proofs.Ranges.{HasKind}
-use Rattle.heading.specs.Heading.{zoneLimits, groundLimits, heightLimits}
-use Rattle.heading.proofs.LimitKinds.{zone-kind, ground-kind, height-kind}
-use Rattle.sheet.specs.RulesA.{Clause, clause, spared, integerClauses, realClauses, limitClause, clausesOf}
+use Rattle.heading.specs.Heading.{limitsOf}
+use Rattle.heading.proofs.LimitKinds.{limits-kind}
+use Rattle.sheet.specs.RulesA.{Clause, clause, spared, integerClauses, realClauses, limitClause, kindOf, clausesOf}
 use Rattle.sheet.specs.RecordA.{Rule, judge}
-use Rattle.sheet.specs.RecordA.Rule.{words, form, free, whole, zones, grounds, stepped, heights}
+use Rattle.sheet.specs.RecordA.Rule.{words, form, free, whole, stepped}
 
 -- the fault of the first broken rule, and f where all are kept
 abbrev pub firstOf : List ℕ → List Clause → Fault → Fault
@@ -109,11 +109,8 @@ abbrev pub suits : ℕ → Rule → Bool
 suits width words = true
 suits width form = true
 suits width free = leb width 24
-suits width (whole a b k) = leb width 6 and nonzero k
-suits width zones = leb width 6
-suits width grounds = leb width 6
-suits width (stepped a b s k) = leb width 24 and nonzero k
-suits width heights = leb width 24
+suits width (whole name) = leb width 6 and nonzero (kindOf name)
+suits width (stepped name) = leb width 24 and nonzero (kindOf name)
 
 module _ (block : List ℕ) (first width : ℕ) (h : length block ≡ 1024) (some : 1 ≤ width) (inside : first - 1 + width ≤ 1024) where
   stretch-fits : (most : ℕ) → width ≤ most → Fits most (stretch first width block)
@@ -139,15 +136,13 @@ module _ (block : List ℕ) (first width : ℕ) (h : length block ≡ 1024) (som
   rule-says words t = λ f. by-test (every isWord (stretch first width block)) (λ e. rw e) (λ e. rw e)
   rule-says form t = λ f. by-test (eqb (realOf block .kind) 6) (λ e. rw e) (λ e. rw e)
   rule-says free t = sparing-says block first realKinds realOf refl (real-kinds _ (stretch-fits 24 (leb-true width 24 t)))
-  rule-says (whole a b k) t =
-      integer-says (leb-true width 6 (and-first (leb width 6) (nonzero k) t)) k (λ _. limits a b 1 k)
-      (and-second (leb width 6) (nonzero k) t) refl
-  rule-says zones t =
-      integer-says (leb-true width 6 t) 9 (λ b. zoneLimits (wholeAt 157 b)) refl (zone-kind (wholeAt 157 block))
-  rule-says grounds t =
-      integer-says (leb-true width 6 t) 9 (λ b. groundLimits (wholeAt 157 b)) refl (ground-kind (wholeAt 157 block))
-  rule-says (stepped a b s k) t =
-      spacing-says (leb-true width 24 (and-first (leb width 24) (nonzero k) t)) k (λ _. limits a b s k)
-      (and-second (leb width 24) (nonzero k) t) refl
-  rule-says heights t =
-      spacing-says (leb-true width 24 t) 7 (λ b. heightLimits (wholeAt 535 b)) refl (height-kind (wholeAt 535 block))
+  rule-says (whole name) t =
+      let k = nonzero (kindOf name) in
+      integer-says (leb-true width 6 (and-first (leb width 6) k t)) (kindOf name)
+      (λ b. limitsOf name (wholeAt 157 b) (wholeAt 535 b))
+      (and-second (leb width 6) k t) (limits-kind name (wholeAt 157 block) (wholeAt 535 block))
+  rule-says (stepped name) t =
+      let k = nonzero (kindOf name) in
+      spacing-says (leb-true width 24 (and-first (leb width 24) k t)) (kindOf name)
+      (λ b. limitsOf name (wholeAt 157 b) (wholeAt 535 b))
+      (and-second (leb width 24) k t) (limits-kind name (wholeAt 157 block) (wholeAt 535 block))

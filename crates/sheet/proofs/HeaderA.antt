@@ -2,7 +2,7 @@
 use mathlib.Core.Bool.{Bool, true, false}
 use mathlib.Core.List.{List, [], _∷_}
 use mathlib.Core.Path.{_≡_, refl, sym, _∙_, ap}
-use Prim.Native.Nat.{ℕ, zero, suc, _<_, _*_, _^_}
+use Prim.Native.Nat.{ℕ, zero, suc, _<_}
 use native.Mathlib.Nat.{le-of-suc-le-suc, not-suc-le-zero}
 use borrow.Author.Tests.{eqb-true, eqb-false, eq-eqb, ne-eqb}
 use lib.Dec.{eqb, lit<}
@@ -13,16 +13,16 @@ use Rattle.laws.specs.Sign.{notNegative}
 use Rattle.number.specs.declared.Reading.{Reading}
 use Rattle.number.specs.Integer.{integer}
 use Rattle.number.specs.Real.{real}
-use Rattle.field.specs.Field.{ranged, limits, stretch, wholeAt}
-use Rattle.field.specs.declared.Limits.{Limits}
+use Rattle.field.specs.Field.{ranged, stretch, wholeAt}
 use Rattle.field.specs.declared.Fault.{Fault}
 use Rattle.field.proofs.Ranges.{ranged-value}
 use Rattle.frame.specs.Frame.{wholeFault}
-use Rattle.heading.specs.Heading.{zoneLimits, groundLimits, heightLimits, headerOf}
-use Rattle.heading.proofs.LimitKinds.{height-kind, ground-kind, zone-kind}
+use Rattle.heading.specs.Heading.{level, system, zone, ground, vertical, accuracy, spacing, height, profiles, limitsOf, spacingAt, headerOf}
+use Rattle.heading.proofs.LimitKinds.{limits-kind}
 use Rattle.sheet.specs.RecordA.{Row, judgeRow, firstFault, row, fields, recordA}
 use Rattle.sheet.specs.RecordA.Rule.{words}
-use Rattle.sheet.specs.RecordASteps.{rowAt, headerFrom}
+use Rattle.sheet.specs.RecordASteps.{rowAt, placeOf, rowFrom, numberFrom, headerFrom}
+use Rattle.sheet.specs.RulesA.{kindOf}
 use Rattle.sheet.specs.declared.Checked.the-variants.{Sheet, Refused}
 
 -- no fault is found where no row has one
@@ -38,46 +38,59 @@ rows-fine block (r ∷ rs) d z i h = go i h (rows-fine block rs d) (eqb (judgeRo
     go (suc i) h ih true e = ih (rw e at z) i (le-of-suc-le-suc h)
     go i h ih false e = absurd (eqb-false (judgeRow block r .kind) 0 e (rw e at z))
 
-pub row-fine : (block : List ℕ) → firstFault block fields .kind ≡ 0 → (i : ℕ) → i < 41 → judgeRow block (rowAt i) .kind ≡ 0
+-- by the byte at which the field begins
+pub field-fine : (block : List ℕ) → firstFault block fields .kind ≡ 0 → (first : ℕ) → placeOf first < 41
+    → judgeRow block (rowFrom first) .kind ≡ 0
 unfolding fields
-row-fine block z i h = rows-fine block fields (row 0 0 words) z i h
+field-fine block z first h = rows-fine block fields (row 0 0 words) z (placeOf first) h
 
 module _ (block : List ℕ) (values : List ℤ) (z : firstFault block fields .kind ≡ 0)
     (read : (i : ℕ) → i < 41 → getD values i (pos 0) ≡ judgeRow block (rowAt i) .value) where
-  -- an integer in fixed limits, in limits by the system, and a spacing
-  whole-is : (i : ℕ) (h : i < 41) (l : Limits) (r : Reading) → judgeRow block (rowAt i) ≡ ranged l r → (l .kind ≡ 0 → ⊥)
-      → getD values i (pos 0) ≡ r .value
-  whole-is i h l r e n =
-      read i h
+  -- a number in the limits of a name
+  number-is : (first : ℕ) (h : placeOf first < 41) (name : ℕ) (r : Reading)
+      → judgeRow block (rowFrom first) ≡ ranged (limitsOf name (wholeAt 157 block) (wholeAt 535 block)) r → (kindOf name ≡ 0 → ⊥)
+      → numberFrom values first ≡ notNegative (r .value)
+  number-is first h name r e n =
+      let l = limitsOf name (wholeAt 157 block) (wholeAt 535 block) in
+      let k : l .kind ≡ kindOf name = limits-kind name (wholeAt 157 block) (wholeAt 535 block) in
+      ap notNegative
+      (read (placeOf first) h
       ∙ ap (λ (x : Reading). x .value) e
-      ∙ ranged-value l r n (ap (λ (x : Reading). x .kind) (sym e) ∙ row-fine block z i h)
+      ∙ ranged-value l r (λ q. n (sym k ∙ q)) (ap (λ (x : Reading). x .kind) (sym e) ∙ field-fine block z first h))
 
-  number-is : (i : ℕ) (h : i < 41) (l : Limits) (r : Reading) → judgeRow block (rowAt i) ≡ ranged l r → (l .kind ≡ 0 → ⊥)
-      → notNegative (getD values i (pos 0)) ≡ notNegative (r .value)
-  number-is i h l r e n = ap notNegative (whole-is i h l r e n)
+  integer-is : (first : ℕ) (h : placeOf first < 41) (name : ℕ)
+      → judgeRow block (rowFrom first)
+      ≡ ranged (limitsOf name (wholeAt 157 block) (wholeAt 535 block)) (integer (stretch first 6 block)) → (kindOf name ≡ 0 → ⊥)
+      → numberFrom values first ≡ wholeAt first block
+  integer-is first h name = number-is first h name (integer (stretch first 6 block))
+
+  spacing-is : (first : ℕ) (h : placeOf first < 41) (name : ℕ)
+      → judgeRow block (rowFrom first)
+      ≡ ranged (limitsOf name (wholeAt 157 block) (wholeAt 535 block)) (real (stretch first 12 block)) → (kindOf name ≡ 0 → ⊥)
+      → numberFrom values first ≡ spacingAt first block
+  spacing-is first h name = number-is first h name (real (stretch first 12 block))
 
   pub header-is : headerFrom values ≡ headerOf block
   unfolding fields headerOf
   header-is =
       λ j.
       record {
-        level = number-is 1 (lit< tt) (limits 1 3 1 9) (integer (stretch 145 6 block)) refl (λ q. omega arith) j;
-        system = number-is 3 (lit< tt) (limits 0 2 1 9) (integer (stretch 157 6 block)) refl (λ q. omega arith) j;
-        zone = number-is 4 (lit< tt) (zoneLimits (wholeAt 157 block)) (integer (stretch 163 6 block)) refl (λ q. omega (arith, zone-kind (wholeAt 157 block))) j;
-        ground =
-            number-is 20 (lit< tt) (groundLimits (wholeAt 157 block)) (integer (stretch 529 6 block)) refl (λ q. omega (arith, ground-kind (wholeAt 157 block))) j;
-        vertical = number-is 21 (lit< tt) (limits 1 2 1 9) (integer (stretch 535 6 block)) refl (λ q. omega arith) j;
-        sw = record { x = read 23 (lit< tt) j; y = read 24 (lit< tt) j };
-        nw = record { x = read 25 (lit< tt) j; y = read 26 (lit< tt) j };
-        ne = record { x = read 27 (lit< tt) j; y = read 28 (lit< tt) j };
-        se = record { x = read 29 (lit< tt) j; y = read 30 (lit< tt) j };
-        least = read 31 (lit< tt) j;
-        greatest = read 32 (lit< tt) j;
-        accuracy = number-is 34 (lit< tt) (limits 0 1 1 9) (integer (stretch 811 6 block)) refl (λ q. omega arith) j;
-        xstep = number-is 35 (lit< tt) (limits (10 ^ 9) (9999 * 10 ^ 9) (10 ^ 9) 7) (real (stretch 817 12 block)) refl (λ q. omega arith) j;
-        ystep = number-is 36 (lit< tt) (limits (10 ^ 9) (9999 * 10 ^ 9) (10 ^ 9) 7) (real (stretch 829 12 block)) refl (λ q. omega arith) j;
-        zstep = number-is 37 (lit< tt) (heightLimits (wholeAt 535 block)) (real (stretch 841 12 block)) refl (λ q. omega (arith, height-kind (wholeAt 535 block))) j;
-        profiles = number-is 39 (lit< tt) (limits 1 2048 1 7) (integer (stretch 859 6 block)) refl (λ q. omega arith) j;
+        level = integer-is 145 (lit< tt) level refl (λ q. omega arith) j;
+        system = integer-is 157 (lit< tt) system refl (λ q. omega arith) j;
+        zone = integer-is 163 (lit< tt) zone refl (λ q. omega arith) j;
+        ground = integer-is 529 (lit< tt) ground refl (λ q. omega arith) j;
+        vertical = integer-is 535 (lit< tt) vertical refl (λ q. omega arith) j;
+        sw = record { x = read (placeOf 547) (lit< tt) j; y = read (placeOf 571) (lit< tt) j };
+        nw = record { x = read (placeOf 595) (lit< tt) j; y = read (placeOf 619) (lit< tt) j };
+        ne = record { x = read (placeOf 643) (lit< tt) j; y = read (placeOf 667) (lit< tt) j };
+        se = record { x = read (placeOf 691) (lit< tt) j; y = read (placeOf 715) (lit< tt) j };
+        least = read (placeOf 739) (lit< tt) j;
+        greatest = read (placeOf 763) (lit< tt) j;
+        accuracy = integer-is 811 (lit< tt) accuracy refl (λ q. omega arith) j;
+        xstep = spacing-is 817 (lit< tt) spacing refl (λ q. omega arith) j;
+        ystep = spacing-is 829 (lit< tt) spacing refl (λ q. omega arith) j;
+        zstep = spacing-is 841 (lit< tt) height refl (λ q. omega arith) j;
+        profiles = integer-is 859 (lit< tt) profiles refl (λ q. omega arith) j;
       }
 
 -- ---- the verdict, by what the code found

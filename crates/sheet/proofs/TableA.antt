@@ -1,11 +1,12 @@
 -- The table of record A as the code walks it: each row stands inside the block, and a row judged by its numbers is judged by its rule.
 use mathlib.Core.Bool.{Bool, true, false}
-use Prim.Native.Nat.{_+_, _-_, ℕ, _≤_, _<_}
+use Prim.Native.Nat.{_+_, _-_, ℕ, zero, suc, _≤_, _<_}
 use lib.Dec.{leb, leb→le, eqb}
-use mathlib.Core.List.{List, _∷_}
+use mathlib.Core.List.{List, [], _∷_, map}
+use native.Mathlib.Nat.{le-of-suc-le-suc, not-suc-le-zero}
 use mathlib.Core.Path.{_≡_, refl, sym, _∙_, ap}
 use native.Mathlib.Omega.{arith}
-use lib.ListN.{take, drop, length, getD, set, length-set}
+use lib.ListN.{take, drop, length, getD, set, length-set, drop-of-length-le, List·getD-map}
 use lib.IntN.{ℤ, pos}
 use native.Mathlib.Numerals.{add-one}
 use lib.Seq.{drop-cons, getD-set-same, getD-set-other}
@@ -14,11 +15,18 @@ use borrow.Author.Tests.{eq-eqb, ne-eqb}
 use Rattle.laws.specs.Sign.{_and_}
 use Rattle.laws.proofs.Tables.{all-at, and-left, and-right}
 use Rattle.number.specs.declared.Reading.{Reading}
-use Rattle.field.specs.Field.{wholeAt, stretch, fault}
+use Rattle.field.specs.Field.{wholeAt, stretch, fault, faultOr}
+use Rattle.field.specs.declared.Fault.{Fault}
 use Rattle.field.specs.declared.Limits.{Limits}
+use Rattle.heading.specs.Heading.{limitsOf}
 use Rattle.sheet.specs.RecordA.{Row, row, fields, Rule, judge, judgeRow, firstFault}
-use Rattle.sheet.specs.RecordA.Rule.{words, form, free, whole, zones, grounds, stepped, heights}
-use Rattle.sheet.specs.RecordASteps.{rowAt, codeOf, byOf, fixedOf, limitsBy, judgeBy, Begun}
+use Rattle.sheet.specs.RecordA.Rule.{words, form, free, whole, stepped}
+use Rattle.sheet.specs.RecordASteps.{rowAt, codeOf, nameOf, judgeBy, Begun, placeIn, placeOf}
+
+getD-any : (l : List ℕ) (i d e : ℕ) → i < length l → getD l i d ≡ getD l i e
+getD-any [] i d e h = absurd (not-suc-le-zero h)
+getD-any (x ∷ l) zero d e h = refl
+getD-any (x ∷ l) (suc i) d e h = getD-any l i d e (le-of-suc-le-suc h)
 
 -- every row stands inside the 1,024 bytes
 inside : Row → Bool
@@ -30,23 +38,20 @@ row-inside i h =
     let t = all-at inside fields (row 0 0 words) tt i h in
     (leb→le 1 _ (and-left (leb 1 (rowAt i .first)) _ t), leb→le _ 1024 (and-right (leb 1 (rowAt i .first)) _ t))
 
-pub judge-by : (r : Rule) (s v : ℕ) (f : List ℕ) → judgeBy (codeOf r) (limitsBy (byOf r) (fixedOf r) s v) f ≡ judge r s v f
+pub judge-by : (r : Rule) (s v : ℕ) (f : List ℕ) → judgeBy (codeOf r) (limitsOf (nameOf r) s v) f ≡ judge r s v f
 judge-by words s v f = refl
 judge-by form s v f = refl
 judge-by free s v f = refl
-judge-by (whole a b k) s v f = refl
-judge-by zones s v f = refl
-judge-by grounds s v f = refl
-judge-by (stepped a b k l) s v f = refl
-judge-by heights s v f = refl
+judge-by (whole name) s v f = refl
+judge-by (stepped name) s v f = refl
 
-pub judge-at-is : (block : List ℕ) (i system vertical first width code by : ℕ) (fixed l : Limits) → Begun block system vertical
-    → first ≡ rowAt i .first → width ≡ rowAt i .width → code ≡ codeOf (rowAt i .rule) → by ≡ byOf (rowAt i .rule)
-    → fixed ≡ fixedOf (rowAt i .rule) → l ≡ limitsBy by fixed system vertical
+pub judge-at-is : (block : List ℕ) (i system vertical first width code name : ℕ) (l : Limits) → Begun block system vertical
+    → first ≡ rowAt i .first → width ≡ rowAt i .width → code ≡ codeOf (rowAt i .rule) → name ≡ nameOf (rowAt i .rule)
+    → l ≡ limitsOf name system vertical
     → judgeBy code l (take (first - 1 + width - (first - 1)) (drop (first - 1) block)) ≡ judgeRow block (rowAt i)
-judge-at-is block i system vertical first width code by fixed l b p q r s t u =
+judge-at-is block i system vertical first width code name l b p q r s u =
     let w : first - 1 + width - (first - 1) ≡ width = omega arith in
-    rw (w, u, t, s, r, q, p, b .system-is, b .vertical-is)
+    rw (w, u, s, r, q, p, b .system-is, b .vertical-is)
     (judge-by (rowAt i .rule) (wholeAt 157 block) (wholeAt 535 block) (stretch (rowAt i .first) (rowAt i .width) block))
 
 -- ---- the walk, row by row
@@ -71,10 +76,10 @@ module _ (block : List ℕ) (values : List ℤ) (system vertical i : ℕ) (p : R
   kind-is : judgeRow block (rowAt i) .kind ≡ r .kind
   kind-is = ap (λ (x : Reading). x .kind) (sym is)
 
-  pub reached-stop : (first : ℕ) → first ≡ rowAt i .first → (r .kind ≡ 0 → ⊥) → fault (r .kind) first ≡ firstFault block fields
+  pub reached-stop : (first : ℕ) → first ≡ rowAt i .first → (r .kind ≡ 0 → ⊥) → faultOr r first (fault 0 0) ≡ firstFault block fields
   reached-stop first e f =
       let g : eqb (judgeRow block (rowAt i) .kind) 0 ≡ false = ap (λ (n : ℕ). eqb n 0) kind-is ∙ ne-eqb (r .kind) 0 f in
-      sym (sym (p .left) ∙ rw (rows-left i h, g, kind-is, e))
+      rw (ne-eqb (r .kind) 0 f) (sym (sym (p .left) ∙ rw (rows-left i h, g, kind-is, e)))
 
   pub reached-turn : r .kind ≡ 0 → Reached block (set values i (r .value)) system vertical (i + 1)
   reached-turn z =
@@ -92,9 +97,36 @@ module _ (block : List ℕ) (values : List ℤ) (system vertical i : ℕ) (p : R
           rw e (getD-set-same values i (r .value) (pos 0) (omega (arith, p .many)) ∙ ap (λ (x : Reading). x .value) is)
       go j k (no f) = getD-set-other values i j (r .value) (pos 0) f ∙ p .read j (omega arith)
 
+pub stop-kind : (r : Reading) (first : ℕ) (f : Fault) → f ≡ faultOr r first (fault 0 0) → (r .kind ≡ 0 → ⊥) → f .kind ≡ 0 → ⊥
+stop-kind r first f e n z =
+    let k : faultOr r first (fault 0 0) .kind ≡ r .kind = rw (ne-eqb (r .kind) 0 n) in
+    n (sym k ∙ ap (λ (x : Fault). x .kind) (sym e) ∙ z)
+
 pub reached-end : (block : List ℕ) (values : List ℤ) (system vertical i : ℕ) → Reached block values system vertical i → 41 ≤ i
     → fault 0 0 ≡ firstFault block fields
 unfolding fields
 reached-end block values system vertical i p h =
     let e : i ≡ 41 = omega (arith, p .within) in
     ap (λ (n : ℕ). firstFault block (drop n fields)) (sym e) ∙ p .left
+
+-- ---- a column of the table is what it says of each row
+pub column-at : (f : Row → ℕ) (d : ℕ) (i : ℕ) → i < 41 → getD (map f fields) i d ≡ f (rowAt i)
+unfolding fields
+column-at f d i h = getD-any (map f fields) i d (f (row 0 0 words)) h ∙ List·getD-map f fields i (row 0 0 words)
+
+-- ---- the place of a field, looked up by its first byte
+module _ (first i : ℕ) (h : i < 41) where
+  pub place-here : (n : ℕ) → n ≡ rowAt i .first → n ≡ first → placeIn first (drop i fields) ≡ 0
+  place-here n e f = rw (rows-left i h, eq-eqb (rowAt i .first) first (sym e ∙ f))
+
+  pub place-on : (n : ℕ) → n ≡ rowAt i .first → (n ≡ first → ⊥) → placeIn first (drop i fields) ≡ suc (placeIn first (drop (i + 1) fields))
+  place-on n e f = rw (rows-left i h, ne-eqb (rowAt i .first) first (λ g. f (e ∙ g)))
+
+pub place-start : (first : ℕ) → (0 ≤ 41) × (0 + placeIn first (drop 0 fields) ≡ placeOf first)
+place-start first =
+    let e : placeIn first (drop 0 fields) ≡ placeOf first = refl in
+    (omega arith, omega arith)
+
+pub place-none : (first i : ℕ) → 41 ≤ i → placeIn first (drop i fields) ≡ 0
+unfolding fields
+place-none first i h = rw (drop-of-length-le fields h)

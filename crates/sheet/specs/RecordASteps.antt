@@ -1,9 +1,9 @@
 -- How the code walks record A: its table as columns of numbers, one entry for each row. The public promise cites `recordA` alone.
-use Prim.Native.Nat.{ℕ, _<_, _+_}
+use Prim.Native.Nat.{ℕ, suc, _<_, _+_}
 use lib.ListN.{getD, length}
 use mathlib.Core.Bool.{cond}
 use lib.Dec.{eqb}
-use mathlib.Core.List.{List}
+use mathlib.Core.List.{List, [], _∷_}
 use lib.IntN.{pos, ℤ}
 use mathlib.Core.Path.{_≡_}
 use Rattle.laws.specs.Texts.{every}
@@ -11,14 +11,13 @@ use Rattle.laws.specs.Sign.{notNegative}
 use Rattle.number.specs.declared.Reading.{Reading}
 use Rattle.number.specs.Integer.{integer, read, refused}
 use Rattle.number.specs.Real.{real}
-use Rattle.field.specs.Field.{limits, isWord, ranged, wholeAt}
+use Rattle.field.specs.Field.{isWord, ranged, wholeAt}
 use Rattle.field.specs.declared.Limits.{Limits}
 use Rattle.field.specs.declared.Fault.{Fault}
 use Rattle.frame.specs.declared.Corner.{Corner}
 use Rattle.frame.specs.declared.Header.{Header}
-use Rattle.heading.specs.Heading.{zoneLimits, groundLimits, heightLimits}
 use Rattle.sheet.specs.RecordA.{Row, row, fields, Rule, judgeRow, firstFault}
-use Rattle.sheet.specs.RecordA.Rule.{words, form, free, whole, zones, grounds, stepped, heights}
+use Rattle.sheet.specs.RecordA.Rule.{words, form, free, whole, stepped}
 
 -- the row at a place of the table; past its end a row that asks nothing
 abbrev pub rowAt : ℕ → Row
@@ -29,37 +28,16 @@ abbrev pub codeOf : Rule → ℕ
 codeOf words = 0
 codeOf form = 1
 codeOf free = 2
-codeOf (whole a b k) = 3
-codeOf zones = 3
-codeOf grounds = 3
-codeOf (stepped a b s k) = 4
-codeOf heights = 4
+codeOf (whole name) = 3
+codeOf (stepped name) = 4
 
--- what the limits go by: 0 nothing, 1 zone by the system, 2 ground unit by the system, 3 z spacing by the vertical unit
-abbrev pub byOf : Rule → ℕ
-byOf words = 0
-byOf form = 0
-byOf free = 0
-byOf (whole a b k) = 0
-byOf zones = 1
-byOf grounds = 2
-byOf (stepped a b s k) = 0
-byOf heights = 3
-
--- the limits that go by nothing
-abbrev pub fixedOf : Rule → Limits
-fixedOf words = limits 0 0 0 0
-fixedOf form = limits 0 0 0 0
-fixedOf free = limits 0 0 0 0
-fixedOf (whole a b k) = limits a b 1 k
-fixedOf zones = limits 0 0 0 0
-fixedOf grounds = limits 0 0 0 0
-fixedOf (stepped a b s k) = limits a b s k
-fixedOf heights = limits 0 0 0 0
-
-abbrev pub limitsBy : ℕ → Limits → ℕ → ℕ → Limits
-limitsBy by fixed system vertical =
-    cond (eqb by 1) (zoneLimits system) (cond (eqb by 2) (groundLimits system) (cond (eqb by 3) (heightLimits vertical) fixed))
+-- the name of its limits; 13, which names none, where it has none
+abbrev pub nameOf : Rule → ℕ
+nameOf words = 13
+nameOf form = 13
+nameOf free = 13
+nameOf (whole name) = name
+nameOf (stepped name) = name
 
 -- a field judged by its code and limits
 abbrev pub judgeBy : ℕ → Limits → List ℕ → Reading
@@ -79,30 +57,45 @@ pub record Walked (block : List ℕ) (values : List ℤ) (f : Fault) : Type 0 wh
   pub first : f ≡ firstFault block fields
   pub read : f .kind ≡ 0 → (i : ℕ) → i < 41 → getD values i (pos 0) ≡ judgeRow block (rowAt i) .value
 
--- a header from the values of the rows
+-- ---- a header from the values of the rows, each looked up by its field's first byte
+
+abbrev pub placeIn : ℕ → List Row → ℕ
+placeIn first [] = 0
+placeIn first (r ∷ rs) = cond (eqb (r .first) first) 0 (suc (placeIn first rs))
+
+-- the place in the table of the field that begins at this byte, and its row
+abbrev pub placeOf : ℕ → ℕ
+placeOf first = placeIn first fields
+
+abbrev pub rowFrom : ℕ → Row
+rowFrom first = rowAt (placeOf first)
+
+abbrev pub valueFrom : List ℤ → ℕ → ℤ
+valueFrom values first = getD values (placeOf first) (pos 0)
+
 abbrev pub cornerFrom : List ℤ → ℕ → Corner
-cornerFrom values i = record { x = getD values i (pos 0); y = getD values (i + 1) (pos 0) }
+cornerFrom values first = record { x = valueFrom values first; y = valueFrom values (first + 24) }
 
 abbrev pub numberFrom : List ℤ → ℕ → ℕ
-numberFrom values i = notNegative (getD values i (pos 0))
+numberFrom values first = notNegative (valueFrom values first)
 
 abbrev pub headerFrom : List ℤ → Header
 headerFrom values =
     record {
-      level = numberFrom values 1;
-      system = numberFrom values 3;
-      zone = numberFrom values 4;
-      ground = numberFrom values 20;
-      vertical = numberFrom values 21;
-      sw = cornerFrom values 23;
-      nw = cornerFrom values 25;
-      ne = cornerFrom values 27;
-      se = cornerFrom values 29;
-      least = getD values 31 (pos 0);
-      greatest = getD values 32 (pos 0);
-      accuracy = numberFrom values 34;
-      xstep = numberFrom values 35;
-      ystep = numberFrom values 36;
-      zstep = numberFrom values 37;
-      profiles = numberFrom values 39;
+      level = numberFrom values 145;
+      system = numberFrom values 157;
+      zone = numberFrom values 163;
+      ground = numberFrom values 529;
+      vertical = numberFrom values 535;
+      sw = cornerFrom values 547;
+      nw = cornerFrom values 595;
+      ne = cornerFrom values 643;
+      se = cornerFrom values 691;
+      least = valueFrom values 739;
+      greatest = valueFrom values 763;
+      accuracy = numberFrom values 811;
+      xstep = numberFrom values 817;
+      ystep = numberFrom values 829;
+      zstep = numberFrom values 841;
+      profiles = numberFrom values 859;
     }

@@ -11,11 +11,11 @@ use Rattle.number.specs.declared.Reading.{Reading}
 use Rattle.number.specs.Integer.{integer}
 use Rattle.number.specs.Real.{real}
 use Rattle.field.specs.declared.Limits.{Limits}
-use Rattle.field.specs.Field.{inLimits, stretch, isWord, limits, wholeAt}
+use Rattle.field.specs.Field.{inLimits, stretch, isWord, wholeAt}
 use Rattle.frame.specs.Frame.{cornersInOrder, columnsOf, rowsOf, oneTo2048}
-use Rattle.heading.specs.Heading.{zoneLimits, groundLimits, heightLimits, headerOf}
+use Rattle.heading.specs.Heading.{limitsOf, headerOf}
 use Rattle.sheet.specs.RecordA.{Rule, Row, fields}
-use Rattle.sheet.specs.RecordA.Rule.{words, form, free, whole, zones, grounds, stepped, heights}
+use Rattle.sheet.specs.RecordA.Rule.{words, form, free, whole, stepped}
 
 -- a rule: the byte and the kind of its refusal, and whether a block keeps it
 pub record Clause : Type 0 where
@@ -48,16 +48,18 @@ realClauses first width =
 abbrev pub limitClause : ℕ → ℕ → ℕ → (List ℕ → Limits) → List Clause
 limitClause first width kind within = clause first kind (λ b. inLimits (within b) (real (stretch first width b) .value)) ∷ []
 
+-- the kind of a name's refusal, which is one whatever its limits go by
+abbrev pub kindOf : ℕ → ℕ
+kindOf name = limitsOf name 0 0 .kind
+
 abbrev pub clausesOf : ℕ → ℕ → Rule → List Clause
 clausesOf first width words = clause first 5 (λ b. every isWord (stretch first width b)) ∷ []
 clausesOf first width form = clause first 6 (λ b. spared 6 (real (stretch first width b))) ∷ []
 clausesOf first width free = realClauses first width
-clausesOf first width (whole least greatest kind) = integerClauses first width kind (λ b. limits least greatest 1 kind)
-clausesOf first width zones = integerClauses first width 9 (λ b. zoneLimits (wholeAt 157 b))
-clausesOf first width grounds = integerClauses first width 9 (λ b. groundLimits (wholeAt 157 b))
-clausesOf first width (stepped least greatest step kind) =
-    realClauses first width ++ limitClause first width kind (λ b. limits least greatest step kind)
-clausesOf first width heights = realClauses first width ++ limitClause first width 7 (λ b. heightLimits (wholeAt 535 b))
+clausesOf first width (whole name) =
+    integerClauses first width (kindOf name) (λ b. limitsOf name (wholeAt 157 b) (wholeAt 535 b))
+clausesOf first width (stepped name) =
+    realClauses first width ++ limitClause first width (kindOf name) (λ b. limitsOf name (wholeAt 157 b) (wholeAt 535 b))
 
 abbrev pub fieldClauses : List Row → List Clause
 fieldClauses [] = []

@@ -5,13 +5,11 @@ use frame::Corner;
 use frame::Header;
 use number::Reading;
 ghost use mathlib.Core.Path.{_≡_};
-ghost use Prim.Native.Nat.{_<_};
-ghost use lib.ListN.{length, getD};
-ghost use lib.IntN.{pos};
-ghost use Rattle.laws.specs.Sign.{notNegative};
+ghost use Prim.Native.Nat.{_<_, _≤_};
+ghost use lib.ListN.{length};
 ghost use Rattle.sheet.specs.RecordA.{recordA, judge, judgeRow};
 ghost use Rattle.sheet.specs.RecordA.Rule.{words, form};
-ghost use Rattle.sheet.specs.RecordASteps.{rowAt, codeOf, byOf, fixedOf, limitsBy, judgeBy, Begun, Walked, cornerFrom, headerFrom};
+ghost use Rattle.sheet.specs.RecordASteps.{rowAt, codeOf, nameOf, judgeBy, Begun, Walked, placeOf, valueFrom, numberFrom, cornerFrom, headerFrom};
 
 pub enum Checked {
     Sheet(Header),
@@ -151,225 +149,49 @@ const CODE: [u8; 41] = [
     0,
 ];
 
-// What its limits go by: 0 nothing, 1 zone by the system, 2 ground unit by the system, 3 z spacing by the vertical unit.
-const BY: [u8; 41] = [
-    0,
-    0,
-    0,
-    0,
-    1,
-    0,
-    0,
-    0,
-    0,
-    0,
-    0,
-    0,
-    0,
-    0,
-    0,
-    0,
-    0,
-    0,
-    0,
-    0,
-    2,
-    0,
-    0,
-    0,
-    0,
-    0,
-    0,
-    0,
-    0,
-    0,
-    0,
-    0,
-    0,
-    0,
-    0,
-    0,
-    0,
-    3,
-    0,
-    0,
-    0,
-];
-
-const LEAST: [u64; 41] = [
-    0,
-    1,
-    1,
-    0,
-    0,
-    0,
-    0,
-    0,
-    0,
-    0,
-    0,
-    0,
-    0,
-    0,
-    0,
-    0,
-    0,
-    0,
-    0,
-    0,
-    0,
-    1,
-    4,
-    0,
-    0,
-    0,
-    0,
-    0,
-    0,
-    0,
-    0,
-    0,
-    0,
-    0,
-    0,
-    1000000000,
-    1000000000,
-    0,
-    1,
-    1,
-    0,
-];
-
-const GREATEST: [u64; 41] = [
-    0,
-    3,
-    1,
-    2,
-    0,
-    0,
-    0,
-    0,
-    0,
-    0,
-    0,
-    0,
-    0,
-    0,
-    0,
-    0,
-    0,
-    0,
-    0,
-    0,
-    0,
-    2,
-    4,
-    0,
-    0,
-    0,
-    0,
-    0,
-    0,
-    0,
-    0,
-    0,
-    0,
-    0,
-    1,
-    9999000000000,
-    9999000000000,
-    0,
-    1,
-    2048,
-    0,
-];
-
-const STEP: [u64; 41] = [
-    0,
-    1,
-    1,
-    1,
-    0,
-    0,
-    0,
-    0,
-    0,
-    0,
-    0,
-    0,
-    0,
-    0,
-    0,
-    0,
-    0,
-    0,
-    0,
-    0,
-    0,
-    1,
-    1,
-    0,
-    0,
-    0,
-    0,
-    0,
-    0,
-    0,
-    0,
-    0,
-    0,
-    1,
-    1,
-    1000000000,
-    1000000000,
-    0,
-    1,
-    1,
-    0,
-];
-
-const KIND: [u32; 41] = [
-    0,
-    9,
-    9,
-    9,
-    0,
-    0,
-    0,
-    0,
-    0,
-    0,
-    0,
-    0,
-    0,
-    0,
-    0,
-    0,
-    0,
-    0,
-    0,
-    0,
-    0,
-    9,
-    9,
-    0,
-    0,
-    0,
-    0,
-    0,
-    0,
-    0,
-    0,
-    0,
-    0,
-    9,
-    9,
-    7,
-    7,
-    0,
-    9,
-    7,
-    0,
+// The name of its limits, as `heading` has them; 13 names none.
+const NAME: [usize; 41] = [
+    13,
+    heading::LEVEL,
+    heading::PATTERN,
+    heading::SYSTEM,
+    heading::ZONE,
+    13,
+    13,
+    13,
+    13,
+    13,
+    13,
+    13,
+    13,
+    13,
+    13,
+    13,
+    13,
+    13,
+    13,
+    13,
+    heading::GROUND,
+    heading::VERTICAL,
+    heading::SIDES,
+    13,
+    13,
+    13,
+    13,
+    13,
+    13,
+    13,
+    13,
+    13,
+    13,
+    heading::ANGLE,
+    heading::ACCURACY,
+    heading::SPACING,
+    heading::SPACING,
+    heading::HEIGHT,
+    heading::RANK,
+    heading::PROFILES,
+    13,
 ];
 
 fn first_byte(i: usize) -> usize
@@ -393,38 +215,11 @@ fn code(i: usize) -> u8
     CODE[i]
 }
 
-fn by(i: usize) -> u8
+fn name(i: usize) -> usize
     requires { ⌜ i < 41 ⌝ }
-    ensures { λ r. ⌜ r ≡ byOf (rowAt i .rule) ⌝ }
+    ensures { λ r. ⌜ r ≡ nameOf (rowAt i .rule) ⌝ }
 {
-    BY[i]
-}
-
-fn fixed_limits(i: usize) -> Limits
-    requires { ⌜ i < 41 ⌝ }
-    ensures { λ r. ⌜ r ≡ fixedOf (rowAt i .rule) ⌝ }
-{
-    Limits {
-        least: LEAST[i],
-        greatest: GREATEST[i],
-        step: STEP[i],
-        kind: KIND[i],
-    }
-}
-
-fn limits_by(by: u8, fixed: Limits, system: u64, vertical: u64) -> Limits
-    ensures { λ r. ⌜ r ≡ limitsBy by fixed system vertical ⌝ }
-{
-    if by == 1 {
-        return heading::zone_limits(system);
-    }
-    if by == 2 {
-        return heading::ground_limits(system);
-    }
-    if by == 3 {
-        return heading::height_limits(vertical);
-    }
-    fixed
+    NAME[i]
 }
 
 fn judge_field(code: u8, l: Limits, field: &[u8]) -> Reading
@@ -471,7 +266,7 @@ fn judge_at(block: &[u8], i: usize, system: u64, vertical: u64) -> Reading
 {
     let start = first_byte(i) - 1;
     let end = start + width(i);
-    let l = limits_by(by(i), fixed_limits(i), system, vertical);
+    let l = heading::named_limits(name(i), system, vertical);
     judge_field(code(i), l, &block[start..end])
 }
 
@@ -486,56 +281,75 @@ fn walk(block: &[u8], values: &mut [i64]) -> Fault
     while i < 41 {
         let r = judge_at(block, i, system, vertical);
         if r.kind != 0 {
-            return Fault {
-                kind: r.kind,
-                byte: first_byte(i) as u32,
-            };
+            return field::fault_or(r, first_byte(i) as u32, field::no_fault());
         }
         let value = r.value;
         values[i] = value;
         i += 1;
     }
-    Fault { kind: 0, byte: 0 }
+    field::no_fault()
 }
 
-fn corner_at(values: &[i64], i: usize) -> Corner
-    requires { ⌜ (length (now values) ≡ 41) × (i < 40) ⌝ }
-    ensures { λ r. ⌜ r ≡ cornerFrom (now (values .entry)) i ⌝ }
+// The row of the field that begins at this byte; 41 where there is none.
+fn row_of(first: usize) -> usize
+    ensures { λ r. ⌜ r ≡ placeOf first ⌝ }
+{
+    let mut i = 0;
+    while i < 41 {
+        if first_byte(i) == first {
+            return i;
+        }
+        i += 1;
+    }
+    41
+}
+
+fn value_of(values: &[i64], first: usize) -> i64
+    ensures { λ r. ⌜ r ≡ valueFrom (now (values .entry)) first ⌝ }
+{
+    let i = row_of(first);
+    if i < values.len() {
+        return values[i];
+    }
+    0
+}
+
+fn number_of(values: &[i64], first: usize) -> u64
+    ensures { λ r. ⌜ r ≡ numberFrom (now (values .entry)) first ⌝ }
+{
+    figures::not_negative(value_of(values, first))
+}
+
+fn corner_of(values: &[i64], first: usize) -> Corner
+    requires { ⌜ first ≤ 1024 ⌝ }
+    ensures { λ r. ⌜ r ≡ cornerFrom (now (values .entry)) first ⌝ }
 {
     Corner {
-        x: values[i],
-        y: values[i + 1],
+        x: value_of(values, first),
+        y: value_of(values, first + 24),
     }
 }
 
-fn number_at(values: &[i64], i: usize) -> u64
-    requires { ⌜ (length (now values) ≡ 41) × (i < 41) ⌝ }
-    ensures { λ r. ⌜ r ≡ notNegative (getD (now (values .entry)) i (pos 0)) ⌝ }
-{
-    figures::not_negative(values[i])
-}
-
 fn header_from(values: &[i64]) -> Header
-    requires { ⌜ length (now values) ≡ 41 ⌝ }
     ensures { λ r. ⌜ r ≡ headerFrom (now (values .entry)) ⌝ }
 {
     Header {
-        level: number_at(values, 1),
-        system: number_at(values, 3),
-        zone: number_at(values, 4),
-        ground: number_at(values, 20),
-        vertical: number_at(values, 21),
-        sw: corner_at(values, 23),
-        nw: corner_at(values, 25),
-        ne: corner_at(values, 27),
-        se: corner_at(values, 29),
-        least: values[31],
-        greatest: values[32],
-        accuracy: number_at(values, 34),
-        xstep: number_at(values, 35),
-        ystep: number_at(values, 36),
-        zstep: number_at(values, 37),
-        profiles: number_at(values, 39),
+        level: number_of(values, 145),
+        system: number_of(values, 157),
+        zone: number_of(values, 163),
+        ground: number_of(values, 529),
+        vertical: number_of(values, 535),
+        sw: corner_of(values, 547),
+        nw: corner_of(values, 595),
+        ne: corner_of(values, 643),
+        se: corner_of(values, 691),
+        least: value_of(values, 739),
+        greatest: value_of(values, 763),
+        accuracy: number_of(values, 811),
+        xstep: number_of(values, 817),
+        ystep: number_of(values, 829),
+        zstep: number_of(values, 841),
+        profiles: number_of(values, 859),
     }
 }
 

@@ -18,7 +18,7 @@ use Rattle.field.specs.declared.Limits.{Limits}
 use Rattle.frame.specs.declared.Header.{Header}
 use Rattle.frame.specs.declared.Corner.{Corner}
 use Rattle.frame.specs.Frame.{columnsOf}
-use Rattle.heading.specs.Heading.{headerObeys, isRealNumber, cornerReal, billion}
+use Rattle.heading.specs.Heading.{headerObeys, isRealNumber, cornerReal, spacingLimits}
 use Rattle.heading.proofs.HeadingFacts.{header-facts, Ranged}
 use Rattle.ground.specs.Extremes.{leastStated, greatestStated}
 use Rattle.spell.specs.Spell.{integerFits, realFits}
@@ -136,7 +136,7 @@ corner-fits c t =
     let a = split (isRealNumber (c .x)) _ t in
     (number-fits (c .x) (a .0), number-fits (c .y) (a .1))
 
-spacing-fits : (v : ℕ) → Ranged billion (9999 * billion) billion v → realFits 6 12 (pos v) ≡ true
+spacing-fits : (v : ℕ) → Ranged spacingLimits v → realFits 6 12 (pos v) ≡ true
 spacing-fits v f = whole-spacing-fits v (f .least) (f .greatest) (f .step)
 
 pub record HeaderReals (h : Header) : Type 0 where

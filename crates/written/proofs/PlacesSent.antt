@@ -18,7 +18,7 @@ use Rattle.lattice.proofs.Cases.{real-small, small-real}
 use Rattle.lattice.proofs.LatticeLaws.{lattice-is, on-place, first-real}
 use Rattle.frame.specs.Frame.{columnsOf, rowsOf, west, east, south, north, cellsOf}
 use Rattle.frame.specs.declared.Header.{Header}
-use Rattle.heading.specs.Heading.{billion, headerObeys}
+use Rattle.heading.specs.Heading.{spacingLimits, headerObeys}
 use Rattle.heading.proofs.HeadingFacts.{Ranged, Heading, header-facts}
 use Rattle.ground.specs.Posts.{void}
 use Rattle.ground.specs.Extremes.{leastOf, greatestOf, filledOnly, leastStated, greatestStated}
@@ -82,10 +82,10 @@ is-real : (z : ℤ) → Fits z → isReal z ≡ true
 is-real z f = small-real z (real-fits 15 24 z f .modest)
 
 -- a spacing is a whole number of units
-spacing-some : (s : ℕ) → Ranged billion (9999 * billion) billion s → 1 ≤ s
+spacing-some : (s : ℕ) → Ranged spacingLimits s → 1 ≤ s
 spacing-some s r = omega (arith, r .least)
 
-spacing-whole : (s : ℕ) → Ranged billion (9999 * billion) billion s → s % 10 ^ 3 ≡ 0
+spacing-whole : (s : ℕ) → Ranged spacingLimits s → s % 10 ^ 3 ≡ 0
 spacing-whole s r = omega (arith, r .step)
 
 module _ (h : Header) (obeys : headerObeys h ≡ true) where

@@ -1,4 +1,4 @@
--- Ten numbers in their limits.
+-- All fields, joined.
 use mathlib.Core.Path.{_∙_}
 use Rattle.laws.specs.Sign.{_and_}
 use Rattle.heading.proofs.fields_obey.Statement.{statement}
@@ -6,24 +6,24 @@ use Rattle.heading.proofs.fields_obey.Tie as tie
 
 returns : tie.Need-returns
 returns c =
-    let zone = c .before in
-    let rest = zone .before in
+    let rest = c .before in
     let spacings = rest .before in
-    let ground = spacings .before in
-    let accuracy = ground .before in
+    let accuracy = spacings .before in
     let vertical = accuracy .before in
-    let system = vertical .before in
+    let ground = vertical .before in
+    let zone = ground .before in
+    let system = zone .before in
     let level = system .before in
     c .all42 .ensures
     ∙ (λ j.
     level .stands-in .ensures j
     and system .stands-in2 .ensures j
-    and zone .zone-obeys .ensures j
+    and zone .stands-in3 .ensures j
     and (rest .all4 .ensures
     ∙ (λ k.
-    ground .ground-obeys .ensures k
-    and vertical .stands-in3 .ensures k
-    and accuracy .stands-in4 .ensures k
+    ground .stands-in4 .ensures k
+    and vertical .stands-in5 .ensures k
+    and accuracy .stands-in6 .ensures k
     and spacings .spacings-obey .ensures k))
     j)
 

@@ -1,4 +1,4 @@
--- Four numbers in their limits.
+-- The spacings and the profiles, joined.
 use mathlib.Core.Path.{_∙_}
 use Rattle.laws.specs.Sign.{_and_}
 use Rattle.heading.proofs.spacings_obey.Statement.{statement}
@@ -11,7 +11,7 @@ returns c =
     let y = z .before in
     let x = y .before in
     c .all4 .ensures
-    ∙ (λ j. x .stands-in .ensures j and y .stands-in2 .ensures j and z .height-obeys .ensures j and n .stands-in3 .ensures j)
+    ∙ (λ j. x .stands-in .ensures j and y .stands-in2 .ensures j and z .stands-in3 .ensures j and n .stands-in4 .ensures j)
 
 pub spacings-obey-spec : {M : Type 1} → statement M
 spacings-obey-spec = tie.close (tie.spec (λ c κs. tt) (λ c κs. tt) (λ c κs. tt) (λ c κs. tt) (λ c κs. tt) returns)

@@ -21,14 +21,11 @@ add-end c =
     let a = c .before .before .before in
     omega (arith, c .before .first-byte .ensures, c .width .ensures, row-inside (a .args .i) (a .pre .0) .1)
 
-by-requires : tie.Need-by-requires
-by-requires c κs = search needs
+name-requires : tie.Need-name-requires
+name-requires c κs = search needs
 
-fixed-limits-requires : tie.Need-fixed-limits-requires
-fixed-limits-requires c κs = search needs
-
-limits-by-requires : tie.Need-limits-by-requires
-limits-by-requires c κs = search needs
+named-limits-requires : tie.Need-named-limits-requires
+named-limits-requires c κs = search needs
 
 code-requires : tie.Need-code-requires
 code-requires c κs = search needs
@@ -41,12 +38,12 @@ part-judge-field-start c = search needs
 
 part-judge-field-end : tie.Need-part-judge-field-end
 part-judge-field-end c =
-    let f = c .before .before .before .before .before in
+    let f = c .before .before .before .before in
     let a = f .before .before in
     omega (
       arith,
       f .first-byte .ensures,
-      c .before .before .before .before .width .ensures,
+      c .before .before .before .width .ensures,
       row-inside (a .args .i) (a .pre .0) .1,
       a .pre .1 .long,
     )
@@ -58,24 +55,21 @@ returns : tie.Need-returns
 returns c =
     let k = c .before .before in
     let l = k .before in
-    let x = l .before in
-    let b = x .before in
-    let w = b .before in
+    let n = l .before in
+    let w = n .before in
     let f = w .before in
     let a = f .before .before in
     c .judge-field .ensures
     ∙ judge-at-is (a .args .block .now) (a .args .i) (a .args .system) (a .args .vertical) (f .first-byte .result) (w .width .result)
     (k .code .result)
-    (b .by .result)
-    (x .fixed-limits .result)
-    (l .limits-by .result)
+    (n .name .result)
+    (l .named-limits .result)
     (a .pre .1)
     (f .first-byte .ensures)
     (w .width .ensures)
     (k .code .ensures)
-    (b .by .ensures)
-    (x .fixed-limits .ensures)
-    (l .limits-by .ensures)
+    (n .name .ensures)
+    (l .named-limits .ensures)
 
 pub judge-at-spec : {M : Type 1} → statement M
 judge-at-spec =
@@ -85,9 +79,8 @@ judge-at-spec =
     sub-start
     width-requires
     add-end
-    by-requires
-    fixed-limits-requires
-    limits-by-requires
+    name-requires
+    named-limits-requires
     code-requires
     sub-judge-field
     part-judge-field-start

@@ -1,10 +1,11 @@
 -- The walk over the table: the loop keeps `Reached`, whose laws are in TableA.
 use Prim.Native.Nat.{_-_}
 use native.Mathlib.Omega.{arith}
-use mathlib.Core.Path.{sym, _∙_}
+use mathlib.Core.Path.{sym, _∙_, ap}
+use Rattle.field.specs.Field.{faultOr}
 use mir.Facts.{toZ-ofZ}
 use mir.Syntax.{w64}
-use Rattle.sheet.proofs.TableA.{Reached, reached-start, row-inside, reached-stop, reached-turn, reached-end}
+use Rattle.sheet.proofs.TableA.{Reached, reached-start, row-inside, reached-stop, reached-turn, stop-kind, reached-end}
 use Rattle.sheet.proofs.walk.Statement.{statement}
 use Rattle.sheet.proofs.walk.Tie as tie
 
@@ -33,30 +34,41 @@ judge-at-requires c κs = (c .loop-test .taken, c .before .loop .inv .begun)
 first-byte-requires : tie.Need-first-byte-requires Inv-loop μ-loop
 first-byte-requires c κs = c .before .before .before .loop-test .taken
 
-cast-t10 : tie.Need-cast-t10 Inv-loop μ-loop
-cast-t10 c =
+cast-fault-or : tie.Need-cast-fault-or Inv-loop μ-loop
+cast-fault-or c =
     let n = c .before .before .before .before in
     omega (arith, c .first-byte .ensures, row-inside (n .before .loop .i) (n .loop-test .taken) .1)
 
+no-fault-requires : tie.Need-no-fault-requires Inv-loop μ-loop
+no-fault-requires c κs = tt
+
+fault-or-requires : tie.Need-fault-or-requires Inv-loop μ-loop
+fault-or-requires c κs = tt
+
 same-length : tie.Need-same-length Inv-loop μ-loop
-same-length c = let l = c .before .before .before .before .before in l .loop .inv .many ∙ sym (l .before .before .before .before .pre .1)
+same-length c =
+    let l = c .before .before .before .before .before .before .before in
+    l .loop .inv .many ∙ sym (l .before .before .before .before .pre .1)
 
 returns : tie.Need-returns Inv-loop μ-loop
 returns c =
-    let j = c .before .before .before in
+    let f = c .before .before in
+    let j = f .before .before .before in
     let l = j .before .before in
     let a = l .before .before .before .before .args in
+    let is = c .fault-or .ensures ∙ ap (faultOr (j .judge-at .result) (f .first-byte .result)) (c .before .no-fault .ensures) in
     record {
       first =
-          reached-stop (a .block .now) (l .loop .values) (l .before .before .whole-at .result) (l .before .whole-at2 .result) (l .loop .i)
+          is
+          ∙ reached-stop (a .block .now) (l .loop .values) (l .before .before .whole-at .result) (l .before .whole-at2 .result) (l .loop .i)
           (l .loop .inv)
           (j .before .loop-test .taken)
           (j .judge-at .result)
           (j .judge-at .ensures)
-          (c .first-byte .result)
-          (c .first-byte .ensures)
-          (c .before .if1 .taken);
-      read = λ z. absurd (c .before .if1 .taken z);
+          (f .first-byte .result)
+          (f .first-byte .ensures)
+          (f .before .if1 .taken);
+      read = λ z. absurd (stop-kind (j .judge-at .result) (f .first-byte .result) (c .fault-or .result) is (f .before .if1 .taken) z);
     }
 
 mul-value : tie.Need-mul-value Inv-loop μ-loop
@@ -87,19 +99,23 @@ loop-again c =
     (j .judge-at .ensures)
     (c .before .if1 .left))
 
+no-fault-requires-2 : tie.Need-no-fault-requires-2 Inv-loop μ-loop
+no-fault-requires-2 c κs = tt
+
 same-length-2 : tie.Need-same-length-2 Inv-loop μ-loop
-same-length-2 c = c .before .loop .inv .many ∙ sym (c .before .before .before .before .before .pre .1)
+same-length-2 c = let l = c .before .before in l .loop .inv .many ∙ sym (l .before .before .before .before .pre .1)
 
 returns-2 : tie.Need-returns-2 Inv-loop μ-loop
 returns-2 c =
-    let l = c .before in
+    let l = c .before .before in
     let a = l .before .before .before .before .args in
     record {
       first =
-          reached-end (a .block .now) (l .loop .values) (l .before .before .whole-at .result) (l .before .whole-at2 .result) (l .loop .i)
+          c .no-fault2 .ensures
+          ∙ reached-end (a .block .now) (l .loop .values) (l .before .before .whole-at .result) (l .before .whole-at2 .result) (l .loop .i)
           (l .loop .inv)
-          (c .loop-test .left);
-      read = λ z i h. l .loop .inv .read i (omega (arith, c .loop-test .left));
+          (c .before .loop-test .left);
+      read = λ z i h. l .loop .inv .read i (omega (arith, c .before .loop-test .left));
     }
 
 pub walk-spec : {M : Type 1} → statement M
@@ -113,7 +129,9 @@ walk-spec =
     loop-holds
     judge-at-requires
     first-byte-requires
-    cast-t10
+    cast-fault-or
+    no-fault-requires
+    fault-or-requires
     same-length
     returns
     mul-value
@@ -121,5 +139,6 @@ walk-spec =
     add-i
     loop-less
     loop-again
+    no-fault-requires-2
     same-length-2
     returns-2)

@@ -1,11 +1,9 @@
--- The table's four columns of limits, computed.
-use borrow.Author.Needs.{needs}
+-- The table's four columns, computed.
 use lib.ListN.{List·getD-map}
-use Rattle.sheet.specs.RecordA.{fields, row}
-use Rattle.sheet.specs.RecordA.Rule.{words}
-use Rattle.sheet.specs.RecordASteps.{fixedOf}
-use Rattle.sheet.proofs.fixed_limits.Statement.{statement}
-use Rattle.sheet.proofs.fixed_limits.Tie as tie
+use Rattle.heading.specs.Heading.{fixedLimits, noLimits}
+use borrow.Author.Needs.{needs}
+use Rattle.heading.proofs.fixed_limits.Statement.{statement}
+use Rattle.heading.proofs.fixed_limits.Tie as tie
 
 mul-t3 : tie.Need-mul-t3
 mul-t3 c = search needs
@@ -32,12 +30,11 @@ array-read-t21 : tie.Need-array-read-t21
 array-read-t21 c = search needs
 
 returns : tie.Need-returns
-unfolding fields
 returns c = λ j. record {
-  least = List·getD-map (λ r. fixedOf (r .rule) .least) fields (c .args .i) (row 0 0 words) j;
-  greatest = List·getD-map (λ r. fixedOf (r .rule) .greatest) fields (c .args .i) (row 0 0 words) j;
-  step = List·getD-map (λ r. fixedOf (r .rule) .step) fields (c .args .i) (row 0 0 words) j;
-  kind = List·getD-map (λ r. fixedOf (r .rule) .kind) fields (c .args .i) (row 0 0 words) j;
+  least = List·getD-map (λ l. l .least) fixedLimits (c .args .name) noLimits j;
+  greatest = List·getD-map (λ l. l .greatest) fixedLimits (c .args .name) noLimits j;
+  step = List·getD-map (λ l. l .step) fixedLimits (c .args .name) noLimits j;
+  kind = List·getD-map (λ l. l .kind) fixedLimits (c .args .name) noLimits j;
 }
 
 pub fixed-limits-spec : {M : Type 1} → statement M
