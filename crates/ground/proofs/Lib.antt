@@ -1,3 +1,4 @@
+pub mod BlocksJoined
 pub mod Heights
 pub mod Tallies
 pub mod MergedTallies

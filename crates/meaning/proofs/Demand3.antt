@@ -10,12 +10,13 @@ use lib.Dec.{eqb}
 use mathlib.Core.Logic.{_↔_}
 use lib.IntN.{ℤ}
 use lib.ListN.{length, take, getD}
+use Rattle.ground.specs.Blocks.{blocksIn}
 use Rattle.laws.proofs.Answers.{one-answer}
 use Rattle.session.specs.declared.Session.{Session}
 use Rattle.ground.specs.Posts.{void, filledIn}
 use Rattle.delivery.specs.declared.Answer.the-variants.{Taken, Held}
 use Rattle.delivery.specs.Deliver.{Lent, lend, roomOf, deliverOf, lentAfter}
-use Rattle.meaning.specs.Text.{blocksIn, profilesIn, cellsIn, postsIn, heightIn, allHeights, cellOfPost}
+use Rattle.meaning.specs.Text.{profilesIn, cellsIn, postsIn, heightIn, allHeights, cellOfPost}
 use Rattle.meaning.specs.Means.{begunSession, sessionOf, gridOf}
 use Rattle.meaning.specs.Rules.{firstBreach}
 use Rattle.meaning.specs.Deliveries.{Reader, Keeps, Delivery, Desk, Due, Disturbed, refusedBy, answerTo, atFirst, answered, after, afterAll, takenText, twice}

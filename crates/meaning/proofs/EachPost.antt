@@ -11,12 +11,13 @@ use lib.Dec.{leb, ltb, eqb}
 use lib.IntN.{ℤ}
 use lib.Seq.{getD-append-add, getD-drop, take-at}
 use lib.Arith.{digits-lt, digits-div, digits-mod}
+use Rattle.ground.specs.Blocks.{blocksIn}
 use Rattle.laws.specs.Lists.{from, below, joined}
 use Rattle.laws.specs.Sign.{sameZ}
 use Rattle.laws.proofs.Tests.{and-first, and-second, by-test}
 use Rattle.laws.proofs.Lists.{from-length}
 use Rattle.ground.specs.Posts.{void, filledIn}
-use Rattle.meaning.specs.Text.{profilesIn, postsIn, columnIn, rowIn, profileAt, postStands, valueAt, heightIn, blocksIn, startOf, headIn, cellsIn, cellIn, columnsIn, rowsIn, cellOfPost, heightsIn, allHeights}
+use Rattle.meaning.specs.Text.{profilesIn, postsIn, columnIn, rowIn, profileAt, postStands, valueAt, heightIn, startOf, headIn, cellsIn, cellIn, columnsIn, rowsIn, cellOfPost, heightsIn, allHeights}
 use Rattle.meaning.specs.Means.{gridOf}
 use Rattle.meaning.specs.Rules.{firstBreach}
 use Rattle.meaning.proofs.Starts.{none-yet, start-order}

@@ -9,6 +9,8 @@ use borrow.Author.Tests.{ltb-true, ltb-false}
 use lib.Dec.{ltb}
 use lib.IntN.{ℤ}
 use lib.Seq.{sets, ext-getD, length-sets, getD-append-add}
+use Rattle.ground.specs.Blocks.{blocksIn}
+use Rattle.ground.proofs.BlocksJoined.{Extends}
 use Rattle.laws.specs.Lists.{below, from, joined}
 use Rattle.laws.proofs.Lists.{from-length, map-same}
 use Rattle.laws.proofs.Tests.{by-test}
@@ -17,11 +19,11 @@ use Rattle.frame.specs.Frame.{columnsOf, rowsOf}
 use Rattle.frame.specs.declared.Header.{Header}
 use Rattle.profile.specs.declared.record_b.Head.{Head}
 use Rattle.ground.specs.Posts.{void}
-use Rattle.meaning.specs.Text.{postsIn, heightIn, heightsIn, blocksIn, profilesIn, rowsIn, cellsIn, startOf, headIn, roomIn, allHeights, numberOn, columnIn, rowIn, cellOfPost, profileAt, postStands, valueAt, cellIn}
+use Rattle.meaning.specs.Text.{postsIn, heightIn, heightsIn, profilesIn, rowsIn, cellsIn, startOf, headIn, roomIn, allHeights, numberOn, columnIn, rowIn, cellOfPost, profileAt, postStands, valueAt, cellIn}
 use Rattle.meaning.specs.Rules.{firstBreach, postsOfBlock}
 use Rattle.meaning.specs.Means.{gridOf}
 use Rattle.meaning.proofs.Starts.{start-order, start-from, none-yet}
-use Rattle.meaning.proofs.Joined.{Extends, Here, start-same, head-same, header-same, column-same, row-same, height-same, heights-whole, one-block-more, within-blocks, not-over, posts-after, newHeights, heights-grow}
+use Rattle.meaning.proofs.Joined.{Here, start-same, head-same, header-same, column-same, row-same, height-same, heights-whole, one-block-more, within-blocks, not-over, posts-after, newHeights, heights-grow}
 use Rattle.meaning.proofs.SessionGrows.{new-length}
 use Rattle.meaning.proofs.Placed.{placed-at}
 use Rattle.meaning.proofs.EachPost.{map-at, StandsFor, stands-for, value-void, value-of-post, begun-with, begun-grid, grid-cell, past-the-sheet, grid-length, post-in-sheet, post-in-its-cell}

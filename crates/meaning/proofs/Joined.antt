@@ -10,6 +10,7 @@ use lib.Seq.{take-append-le, drop-append-le, take-all, drop-at}
 use borrow.Author.Tests.{ltb-false, lt-ltb, le-ltb, ltb-true}
 use lib.Dec.{ltb}
 use mathlib.Core.Bool.{true, false}
+use Rattle.ground.specs.Blocks.{blockAt, blocksIn}
 use Rattle.laws.specs.Lists.{below, from, joined}
 use Rattle.laws.proofs.Tests.{by-test}
 use Rattle.laws.proofs.Lists.{map-same, from-append, map-append, map-shift, joined-until, append-brackets}
@@ -22,8 +23,9 @@ use Rattle.frame.specs.declared.Header.{Header}
 use Rattle.heading.specs.Heading.{headerOf}
 use Rattle.profile.specs.declared.record_b.Head.{Head}
 use Rattle.profile.specs.RecordB.{headOf}
+use Rattle.ground.proofs.BlocksJoined.{Extends}
 use Rattle.ground.specs.Posts.{height, blocksFor, postsOf, heights}
-use Rattle.meaning.specs.Text.{postByte, blockAt, blocksIn, headerIn, startOf, headIn, roomIn, postsIn, postBlock, heightIn, heightsIn, columnPlaceIn, rowPlaceIn, profilesIn, zIn, allHeights}
+use Rattle.meaning.specs.Text.{postByte, headerIn, startOf, headIn, roomIn, postsIn, postBlock, heightIn, heightsIn, columnPlaceIn, rowPlaceIn, profilesIn, zIn, allHeights}
 use Rattle.meaning.specs.Rules.{postsOfBlock, postsByte}
 use Rattle.meaning.proofs.Starts.{next-start, start-order, none-yet}
 
@@ -36,27 +38,6 @@ rowBy h d = placeOf (latticeOf (south h) (north h) (h .ystep)) (h .ystep) (d .y)
 
 abbrev heightBy : ℕ → Header → Head → List ℕ → ℤ
 heightBy i h d b = height (h .zstep / 10000000) (d .datum) (integer (stretch (postByte i) 6 b) .value)
-
--- a text of k blocks, and the text of these and one block more
-pub record Extends (text more block : List ℕ) (k : ℕ) : Type 0 where
-  pub many : blocksIn text ≡ k
-  pub one-more : blocksIn more ≡ suc k
-  pub same : (b : ℕ) → b < k → blockAt more b ≡ blockAt text b
-  pub next : blockAt more k ≡ block
-
--- joining a block keeps the earlier ones
-pub join-extends : (text block : List ℕ) (k : ℕ) → length text ≡ 1024 * k → length block ≡ 1024 → Extends text (text ++ block) block k
-join-extends text block k long one =
-    record {
-      many = omega (arith, long);
-      one-more = omega (arith, long, one, length-append text block);
-      same =
-          λ b lt.
-          let room : 1024 * b ≤ length text = omega (arith, long, lt) in
-          let rest : 1024 ≤ length (drop (1024 * b) text) = omega (arith, length-drop (1024 * b) text, long, lt) in
-          ap (take 1024) (drop-append-le (1024 * b) text block room) ∙ take-append-le 1024 (drop (1024 * b) text) block rest;
-      next = ap (take 1024) (drop-at text block (1024 * k) long) ∙ take-all 1024 block (omega (arith, one));
-    }
 
 module _ (text more block : List ℕ) (k : ℕ) (x : Extends text more block k) where
   pub start-same : (j : ℕ) → startOf text j ≤ k → startOf more j ≡ startOf text j

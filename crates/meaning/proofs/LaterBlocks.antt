@@ -6,6 +6,8 @@ use mathlib.Core.Path.{_≡_, refl, sym, _∙_, ap, ap₂}
 use mathlib.Core.List.{List, [], _∷_, _++_}
 use native.Mathlib.Omega.{arith}
 use borrow.Author.Tests.{lt-ltb, ne-eqb}
+use Rattle.ground.specs.Blocks.{blockAt, blocksIn}
+use Rattle.ground.proofs.BlocksJoined.{Extends}
 use Rattle.laws.proofs.Tests.{by-test}
 use Rattle.lattice.specs.declared.Place.{Place}
 use Rattle.lattice.specs.declared.Place.the-variants.{On, Off}
@@ -19,12 +21,12 @@ use Rattle.session.specs.declared.Profile.{Profile}
 use Rattle.ground.specs.Posts.{postsFault, blockFault, postsOf, heights, filledIn}
 use Rattle.ground.specs.Extremes.{filledOnly, leastOf, greatestOf}
 use Rattle.delivery.specs.Deliver.{columnFits, Verdict, unless, wrong, filling, further, opening, openingWith, opened, placed, columnPlace, firstColumn, rowFits, rowPlace, postsHere}
-use Rattle.meaning.specs.Text.{numberOn, blockAt, blocksIn, headerIn, zIn, startOf, headIn, postsIn, heightsIn, columnPlaceIn, rowPlaceIn, columnIn}
+use Rattle.meaning.specs.Text.{numberOn, headerIn, zIn, startOf, headIn, postsIn, heightsIn, columnPlaceIn, rowPlaceIn, columnIn}
 use Rattle.meaning.specs.Rules.{Breach, inBlock, firstBroken, breach, rule, postsOfBlock, postsByte, blockRules, columnKept, rowKept, placeRules}
 use Rattle.meaning.specs.Means.{begunSession}
 use Rattle.meaning.proofs.Verdicts.{byBreach, by-cons, by-append, busy-profile}
 use Rattle.meaning.proofs.Starts.{start-from, none-yet}
-use Rattle.meaning.proofs.Joined.{Extends, Here, columnBy, rowBy, header-same, head-same, column-same, row-same, same-start, newHeights}
+use Rattle.meaning.proofs.Joined.{Here, columnBy, rowBy, header-same, head-same, column-same, row-same, same-start, newHeights}
 use Rattle.meaning.proofs.SessionGrows.{readSoFar, closed-here, read-is}
 
 -- `columnFits` over what it looks at

@@ -7,6 +7,8 @@ use native.Mathlib.Omega.{arith}
 use borrow.Author.Tests.{ltb-true, ltb-false, lt-ltb, le-ltb, le-leb, lt-leb, leb-true, leb-false, eq-eqb, ne-eqb}
 use lib.Dec.{leb, ltb, eqb}
 use lib.ListN.{length}
+use Rattle.ground.specs.Blocks.{blockAt, blocksIn}
+use Rattle.ground.proofs.BlocksJoined.{Extends}
 use Rattle.laws.specs.Lists.{below, joined}
 use Rattle.laws.proofs.Tests.{by-test}
 use Rattle.laws.proofs.Lists.{append-brackets}
@@ -19,12 +21,12 @@ use Rattle.session.specs.declared.Session.{Session}
 use Rattle.ground.specs.Posts.{filledIn}
 use Rattle.ground.specs.Extremes.{filledOnly, leastOf, greatestOf}
 use Rattle.delivery.specs.Deliver.{fills, unless, later, further, opening, filling, nextCell, finishedSession}
-use Rattle.meaning.specs.Text.{blockAt, blocksIn, headerIn, profilesIn, startOf, columnIn, numberOn}
+use Rattle.meaning.specs.Text.{headerIn, profilesIn, startOf, columnIn, numberOn}
 use Rattle.meaning.specs.Rules.{Breach, breach, inBlock, rule, when, firstBroken, firstBreach, sheetRules, endRules, blockRules, placeRules, endOf, blocksOfSheet, isComplete}
 use Rattle.meaning.specs.Means.{closedIn, isOpen, begunSession}
 use Rattle.meaning.proofs.Lists.{Kept, kept-rest}
 use Rattle.meaning.proofs.Starts.{closed-most, closed-start, closed-next, closed-is, start-order, start-from}
-use Rattle.meaning.proofs.Joined.{Extends, Here, start-same, header-same, column-same, newHeights}
+use Rattle.meaning.proofs.Joined.{Here, start-same, header-same, column-same, newHeights}
 use Rattle.meaning.proofs.SessionGrows.{readSoFar, closed-here}
 use Rattle.meaning.proofs.Verdicts.{byBreach, by-cons, by-append, is-idle, is-busy, filling-rules}
 use Rattle.meaning.proofs.LaterBlocks.{further-rules, opening-rules}

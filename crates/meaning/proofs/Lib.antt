@@ -1,7 +1,6 @@
 pub mod Lists
 pub mod Starts
 pub mod Joined
-pub mod BlocksJoined
 pub mod Counted
 pub mod SessionGrows
 pub mod Placed

@@ -11,6 +11,8 @@ use native.Mathlib.Omega.{arith}
 use borrow.Author.Tests.{ltb-true, ltb-false, le-ltb, eq-eqb, ne-eqb, eqb-true, eqb-false}
 use lib.Dec.{ltb, eqb}
 use lib.Seq.{sets}
+use Rattle.ground.specs.Blocks.{blocksIn, blockAt}
+use Rattle.ground.proofs.BlocksJoined.{Extends, join-extends}
 use Rattle.laws.proofs.Tests.{by-test}
 use Rattle.laws.proofs.Lists.{append-nil, joined-empty}
 use Rattle.frame.specs.Frame.{rowsOf, cellsOf}
@@ -26,12 +28,12 @@ use Rattle.delivery.specs.declared.Answer.{Answer}
 use Rattle.delivery.specs.declared.Answer.the-variants.{Taken, Held, Refused}
 use Rattle.delivery.specs.declared.Delivered.{Delivered}
 use Rattle.delivery.proofs.SoundOut.{sound-out}
-use Rattle.meaning.specs.Text.{blocksIn, cellsIn, blockAt, headerIn, profilesIn, rowsIn, startOf, postsIn, heightsIn, allHeights, columnIn, rowIn, cellOfPost}
+use Rattle.meaning.specs.Text.{cellsIn, headerIn, profilesIn, rowsIn, startOf, postsIn, heightsIn, allHeights, columnIn, rowIn, cellOfPost}
 use Rattle.meaning.specs.Rules.{firstBreach, Breach, isComplete, inBlock, endOf}
 use Rattle.meaning.specs.Means.{sessionOf, gridOf, closedIn, isOpen, begunSession}
 use Rattle.meaning.specs.Deliveries.{bytesIf, refusedBy, answerTo, Desk, atFirst, Reader, Keeps, Delivery, answered, after}
 use Rattle.meaning.proofs.Starts.{next-start, start-from, none-yet, closed-is}
-use Rattle.meaning.proofs.Joined.{Extends, join-extends, header-same, same-start, newHeights}
+use Rattle.meaning.proofs.Joined.{header-same, same-start, newHeights}
 use Rattle.meaning.proofs.SessionGrows.{readSoFar}
 use Rattle.meaning.proofs.Verdicts.{byBreach}
 use Rattle.meaning.proofs.Placed.{placed-at}

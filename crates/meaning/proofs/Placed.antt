@@ -7,6 +7,7 @@ use mathlib.Core.Bool.{Bool, true, false}
 use Prim.Native.Nat.{ℕ, _+_, _≤_, suc, _-_, zero, _<_}
 use native.Mathlib.Nat.{add-zero}
 use native.Mathlib.Omega.{arith}
+use Rattle.ground.specs.Blocks.{blocksIn, blockAt}
 use Rattle.laws.specs.Lists.{below, joined}
 use Rattle.laws.proofs.Tests.{by-test, clash}
 use Rattle.lattice.specs.declared.Place.{Place}
@@ -19,7 +20,7 @@ use Rattle.profile.specs.RecordB.{recordB, headFault, headOf}
 use Rattle.profile.specs.declared.record_b.Headed.the-variants.{Profile}
 use Rattle.profile.proofs.RecordLaws.{head-bounds}
 use Rattle.meaning.specs.Rules.{Breach, rule, columnKept, rowKept, when, profileRules, hasBegun, sheetRules, endOf, endRules, blockRules, blocksOf, isWhole, closingRules, placeRules, inBlock, breach, firstBreach}
-use Rattle.meaning.specs.Text.{profilesIn, columnsIn, numberOn, columnIn, rowsIn, headIn, rowIn, blocksIn, blockAt, startOf, columnPlaceIn, rowPlaceIn, headerIn}
+use Rattle.meaning.specs.Text.{profilesIn, columnsIn, numberOn, columnIn, rowsIn, headIn, rowIn, startOf, columnPlaceIn, rowPlaceIn, headerIn}
 use Rattle.meaning.proofs.Lists.{Kept, kept-front, kept-rest, kept-at}
 use Rattle.meaning.proofs.Starts.{start-order}
 

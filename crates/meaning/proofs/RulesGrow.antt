@@ -7,6 +7,8 @@ use Prim.Native.Nat.{ℕ, suc, _+_, _*_, _-_, _≤_, zero, _<_}
 use native.Mathlib.Omega.{arith}
 use lib.IntN.{ℤ}
 use lib.Dec.{leb, ltb, eqb}
+use Rattle.ground.specs.Blocks.{blocksIn, blockAt}
+use Rattle.ground.proofs.BlocksJoined.{Extends}
 use Rattle.laws.specs.Lists.{from, below, joined}
 use Rattle.laws.specs.Sign.{sameZ}
 use Rattle.laws.proofs.Lists.{append-brackets, from-append, map-append, append-nil, joined-append, map-same, joined-empty, joined-until}
@@ -26,10 +28,10 @@ use Rattle.profile.specs.RecordB.{headFault}
 use Rattle.ground.specs.Posts.{postsFault, blocksFor}
 use Rattle.ground.specs.Extremes.{leastStated, greatestStated}
 use Rattle.meaning.specs.Rules.{Breach, firstBroken, when, inBlock, postsOfBlock, postsByte, breach, rule, blockRules, closingRules, isWhole, sheetRules, endOf, blocksOf, firstBreach, columnKept, rowKept, placeRules, profileRules, blocksOfSheet, hasBegun, endRules}
-use Rattle.meaning.specs.Text.{blocksIn, startOf, headIn, blockAt, profilesIn, heightsIn, allHeights, numberOn, columnPlaceIn, rowPlaceIn}
+use Rattle.meaning.specs.Text.{startOf, headIn, profilesIn, heightsIn, allHeights, numberOn, columnPlaceIn, rowPlaceIn}
 use Rattle.meaning.proofs.Lists.{Kept, first-append, kept-front, kept-rest, kept-all}
 use Rattle.meaning.proofs.Starts.{next-start, start-order, start-from}
-use Rattle.meaning.proofs.Joined.{Extends, Here, start-same, head-same, header-same, column-same, row-same, heights-whole, not-over}
+use Rattle.meaning.proofs.Joined.{Here, start-same, head-same, header-same, column-same, row-same, heights-whole, not-over}
 use Rattle.meaning.proofs.Placed.{first-kept, behind-kept, begunRules, lastRules, behindA, behindPlace, behindHead, headRule, header-fine, profile-kept, place-kept}
 
 -- ---- lists of rules, of which the first are kept

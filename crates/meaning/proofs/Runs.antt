@@ -8,15 +8,16 @@ use lib.IntN.{ℤ}
 use lib.ListN.{length}
 use borrow.Author.Tests.{ltb-false, le-ltb, eq-eqb, eqb-true, eqb-false}
 use lib.Dec.{ltb, eqb}
+use Rattle.ground.specs.Blocks.{blocksIn}
+use Rattle.ground.proofs.BlocksJoined.{Extends, join-extends}
 use Rattle.laws.proofs.Tests.{clash, by-test}
 use Rattle.laws.proofs.Lists.{append-nil, append-brackets}
 use Rattle.delivery.specs.declared.Answer.{Answer}
 use Rattle.delivery.specs.declared.Answer.the-variants.{Taken, Held, Refused}
 use Rattle.delivery.specs.Deliver.{lend, roomOf}
-use Rattle.meaning.specs.Text.{blocksIn, cellsIn}
+use Rattle.meaning.specs.Text.{cellsIn}
 use Rattle.meaning.specs.Rules.{Breach, breach, firstBreach, isComplete}
 use Rattle.meaning.specs.Deliveries.{Delivery, Due, refusedBy, answerTo, Reader, Keeps, Desk, Disturbed, ended, sent, disturbed, atFirst, answered, after, afterAll, bytesIf, takenText, twice}
-use Rattle.meaning.proofs.Joined.{Extends, join-extends}
 use Rattle.meaning.proofs.LaterVerdict.{complete-breach, all-now, incomplete}
 use Rattle.meaning.proofs.OneDelivery.{Good, Stands, stands-first, stands-next, answer-told, not-taken-nothing}
 

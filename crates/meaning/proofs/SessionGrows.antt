@@ -8,6 +8,8 @@ use native.Mathlib.Omega.{arith}
 use borrow.Author.Tests.{ltb-true, ltb-false, lt-ltb, le-ltb}
 use lib.Dec.{ltb}
 use lib.IntN.{ℤ}
+use Rattle.ground.specs.Blocks.{blocksIn}
+use Rattle.ground.proofs.BlocksJoined.{Extends}
 use Rattle.laws.proofs.Tests.{by-test}
 use Rattle.frame.specs.declared.Header.{Header}
 use Rattle.session.specs.declared.Profile.{Profile}
@@ -18,11 +20,11 @@ use Rattle.ground.specs.Extremes.{filledOnly, leastOf, greatestOf}
 use Rattle.ground.proofs.Heights.{heights-length}
 use Rattle.ground.proofs.PostsRead.{posts-length}
 use Rattle.delivery.specs.Deliver.{filledSession, closedSession, readOn}
-use Rattle.meaning.specs.Text.{blocksIn, headerIn, allHeights, columnIn, headIn, postsIn, heightsIn, rowIn, profilesIn, zIn, startOf, roomIn}
+use Rattle.meaning.specs.Text.{headerIn, allHeights, columnIn, headIn, postsIn, heightsIn, rowIn, profilesIn, zIn, startOf, roomIn}
 use Rattle.meaning.specs.Means.{openProfile, closedIn, isOpen, begunSession}
 use Rattle.meaning.specs.Rules.{postsOfBlock, postsByte, endOf}
 use Rattle.meaning.proofs.Starts.{next-start, start-order, closed-is}
-use Rattle.meaning.proofs.Joined.{Extends, Here, header-same, same-start, not-over, posts-after, newHeights, heights-grow, all-grow}
+use Rattle.meaning.proofs.Joined.{Here, header-same, same-start, not-over, posts-after, newHeights, heights-grow, all-grow}
 use Rattle.meaning.proofs.Counted.{counted-on}
 
 -- the session of a text by how many of its profiles are closed, and the one after them

@@ -6,8 +6,9 @@ use mathlib.Core.Path.{_≡_}
 use native.Mathlib.Nat.{add-zero}
 use lib.Dec.{leb, ltb}
 use borrow.Author.Tests.{leb-true, leb-false, ltb-true, ltb-false}
+use Rattle.ground.specs.Blocks.{blocksIn}
 use Rattle.laws.proofs.Tests.{by-test}
-use Rattle.meaning.specs.Text.{startOf, blocksIn, postsIn}
+use Rattle.meaning.specs.Text.{startOf, postsIn}
 use Rattle.meaning.specs.Means.{closedOf}
 
 pub next-start : (text : List ℕ) (j : ℕ) → startOf text j < startOf text (suc j)

@@ -7,6 +7,8 @@ use mathlib.Core.Path.{_≡_, refl, sym, _∙_, ap, ap₂}
 use Prim.Native.Nat.{ℕ, _+_, suc, _-_, _/_, _≤_, _<_}
 use native.Mathlib.Omega.{arith}
 use borrow.Author.Tests.{ltb-true, ltb-false, lt-ltb, le-ltb, le-leb, lt-leb, ne-eqb, eqb-true, eqb-false}
+use Rattle.ground.specs.Blocks.{blocksIn}
+use Rattle.ground.proofs.BlocksJoined.{Extends}
 use Rattle.laws.specs.Sign.{sameZ}
 use Rattle.laws.proofs.Tests.{by-test}
 use Rattle.frame.specs.declared.Header.{Header}
@@ -16,12 +18,12 @@ use Rattle.session.specs.declared.Session.{Session}
 use Rattle.ground.specs.Extremes.{leastStated, greatestStated}
 use Rattle.delivery.specs.Deliver.{Verdict, wrong, closeVerdict, refusal, closeFault, fills, closedSession, filling, nextCell}
 use Rattle.meaning.specs.Rules.{Breach, firstBroken, breach, rule, when, closingRules, sheetRules, isWhole, endOf}
-use Rattle.meaning.specs.Text.{headerIn, profilesIn, startOf, headIn, heightsIn, allHeights, blocksIn, postsIn, columnIn}
+use Rattle.meaning.specs.Text.{headerIn, profilesIn, startOf, headIn, heightsIn, allHeights, postsIn, columnIn}
 use Rattle.meaning.specs.Means.{isOpen, openProfile, begunSession}
 use Rattle.meaning.proofs.Counted.{stated-least, stated-greatest}
 use Rattle.meaning.proofs.SessionGrows.{openSession, readSoFar, closed-here, session-filled, session-open, session-closed, last-or-not, read-is, exactly}
 use Rattle.meaning.proofs.Starts.{next-start, start-order}
-use Rattle.meaning.proofs.Joined.{Extends, Here, header-same, same-start, newHeights}
+use Rattle.meaning.proofs.Joined.{Here, header-same, same-start, newHeights}
 
 -- refused for a broken rule, or else
 abbrev pub byBreach : Breach → Verdict → Verdict

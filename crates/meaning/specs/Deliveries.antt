@@ -6,6 +6,7 @@ use Prim.Native.Nat.{ℕ, _≤_}
 use lib.ListN.{length}
 use lib.IntN.{ℤ}
 use mathlib.Core.Path.{_≡_}
+use Rattle.ground.specs.Blocks.{blocksIn}
 use Rattle.session.specs.declared.Session.{Session}
 use Rattle.session.specs.Session.{fresh}
 use Rattle.delivery.specs.declared.Answer.{Answer}
@@ -13,7 +14,7 @@ use Rattle.delivery.specs.declared.Answer.the-variants.{Refused, Taken, Held}
 use Rattle.delivery.specs.declared.Delivered.{Delivered}
 use Rattle.delivery.specs.Deliver.{Lent, Room, lend, tooShort, deliverOf, lentAfter}
 use Rattle.meaning.specs.Rules.{Breach, firstBreach, isComplete}
-use Rattle.meaning.specs.Text.{blocksIn, cellsIn, headerIn}
+use Rattle.meaning.specs.Text.{cellsIn, headerIn}
 
 -- "refused with kind, block and byte", where a rule is broken
 abbrev pub refusedBy : Breach → Answer → Answer

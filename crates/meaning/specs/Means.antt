@@ -5,13 +5,14 @@ use Prim.Native.Nat.{ℕ, zero, suc}
 use lib.Dec.{leb, ltb, eqb}
 use lib.ListN.{length, drop}
 use lib.IntN.{ℤ}
+use Rattle.ground.specs.Blocks.{blocksIn}
 use Rattle.laws.specs.Lists.{below}
 use Rattle.session.specs.declared.Profile.{Profile}
 use Rattle.session.specs.Session.{noProfile, fresh}
 use Rattle.session.specs.declared.Session.{Session}
 use Rattle.ground.specs.Posts.{filledIn}
 use Rattle.ground.specs.Extremes.{filledOnly, leastOf, greatestOf}
-use Rattle.meaning.specs.Text.{blocksIn, startOf, profilesIn, headIn, rowIn, postsIn, heightsIn, headerIn, columnIn, allHeights, cellsIn, cellIn}
+use Rattle.meaning.specs.Text.{startOf, profilesIn, headIn, rowIn, postsIn, heightsIn, headerIn, columnIn, allHeights, cellsIn, cellIn}
 use Rattle.meaning.specs.Rules.{hasBegun, endOf}
 
 -- how many of the first n profiles are closed: the text has every block of theirs

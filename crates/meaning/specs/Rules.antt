@@ -3,6 +3,7 @@ use Prim.Native.Nat.{ℕ, zero, suc, _+_, _*_, _-_, min}
 use mathlib.Core.Bool.{Bool, cond, false}
 use mathlib.Core.List.{List, [], _∷_, _++_, map}
 use lib.Dec.{eqb, leb, ltb}
+use Rattle.ground.specs.Blocks.{blockAt, blocksIn}
 use Rattle.laws.specs.Sign.{sameZ}
 use Rattle.laws.specs.Lists.{below, joined}
 use Rattle.lattice.specs.declared.Place.{Place}
@@ -14,7 +15,7 @@ use Rattle.profile.specs.RecordB.{headFault}
 use Rattle.profile.specs.RecordC.{recordC}
 use Rattle.ground.specs.Posts.{postsFault, blocksFor}
 use Rattle.ground.specs.Extremes.{leastStated, greatestStated}
-use Rattle.meaning.specs.Text.{blockAt, startOf, headIn, profilesIn, columnsIn, columnIn, rowsIn, columnPlaceIn, rowPlaceIn, heightsIn, blocksIn, headerIn, allHeights}
+use Rattle.meaning.specs.Text.{startOf, headIn, profilesIn, columnsIn, columnIn, rowsIn, columnPlaceIn, rowPlaceIn, heightsIn, headerIn, allHeights}
 
 -- a broken rule: document 01's number, the block, the byte; kind 0 where the rule is kept
 pub record Breach : Type 0 where

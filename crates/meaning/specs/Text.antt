@@ -17,15 +17,8 @@ use Rattle.frame.specs.Frame.{columnsOf, rowsOf, west, east, south, north}
 use Rattle.heading.specs.Heading.{headerOf}
 use Rattle.profile.specs.RecordB.{headOf}
 use Rattle.profile.specs.declared.record_b.Head.{Head}
+use Rattle.ground.specs.Blocks.{blockAt, blocksIn}
 use Rattle.ground.specs.Posts.{blocksFor, height, void}
-
--- ---- blocks of 1,024 bytes, counted from 0
-
-abbrev pub blockAt : List ℕ → ℕ → List ℕ
-blockAt text b = take 1024 (drop (1024 * b) text)
-
-abbrev pub blocksIn : List ℕ → ℕ
-blocksIn text = length text / 1024
 
 -- ---- "Record A (block 0)"
 

@@ -11,6 +11,8 @@ use lib.ListN.{length, take, drop, getD, length-map, List·getD-eq-default}
 use native.Mathlib.Omega.{arith}
 use lib.Arith.{digits-div, digits-mod}
 use lib.Seq.{take-add, take-all}
+use Rattle.ground.specs.Blocks.{blockAt, blocksIn}
+use Rattle.ground.proofs.BlocksJoined.{Extends}
 use Rattle.laws.specs.Lists.{below, joined}
 use Rattle.laws.specs.Sign.{sameZ}
 use Rattle.laws.proofs.Tests.{by-test}
@@ -28,13 +30,13 @@ use Rattle.profile.specs.declared.record_b.Head.{Head}
 use Rattle.ground.specs.Posts.{blocksFor, postsFault, postsOf, heights, void}
 use Rattle.ground.specs.Extremes.{leastStated, greatestStated}
 use Rattle.meaning.specs.Rules.{Breach, rule, postsOfBlock, postsByte, inBlock, when, firstBroken, firstBreach, blockRules, placeRules, columnKept, rowKept, closingRules, sheetRules, isWhole, endOf, blocksOfSheet, isComplete}
-use Rattle.meaning.specs.Text.{roomIn, blockAt, blocksIn, headerIn, profilesIn, startOf, headIn, postsIn, heightIn, heightsIn, allHeights, columnPlaceIn, rowPlaceIn, columnIn, rowIn, numberOn, rowsIn, valueAt, cellIn, zIn}
+use Rattle.meaning.specs.Text.{roomIn, headerIn, profilesIn, startOf, headIn, postsIn, heightIn, heightsIn, allHeights, columnPlaceIn, rowPlaceIn, columnIn, rowIn, numberOn, rowsIn, valueAt, cellIn, zIn}
 use Rattle.meaning.proofs.Lists.{Kept, kept-both}
 use Rattle.meaning.proofs.Starts.{start-order, start-from, none-yet}
-use Rattle.meaning.proofs.Joined.{Extends, Here, columnBy, rowBy, start-same, heights-whole, newHeights, heights-grow, all-grow}
+use Rattle.meaning.proofs.Joined.{Here, columnBy, rowBy, start-same, heights-whole, newHeights, heights-grow, all-grow}
 use Rattle.meaning.proofs.EachPost.{map-at, stands-for, value-void, value-of-post}
 use Rattle.meaning.proofs.RulesGrow.{closingDue, further-due, opening-due, first-due-kept}
-use Rattle.meaning.proofs.BlocksJoined as Blocks
+use Rattle.ground.proofs.BlocksJoined as Blocks
 
 kept-one : (a : Breach) → a .kind ≡ 0 → Kept (a ∷ [])
 kept-one a e = let t : eqb (a .kind) 0 ≡ true = eq-eqb (a .kind) 0 e in rw t

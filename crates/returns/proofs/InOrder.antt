@@ -10,6 +10,8 @@ use borrow.Author.Tests.{ne-eqb}
 use lib.Dec.{leb, eqb}
 use lib.IntN.{ℤ}
 use lib.ListN.{length, getD}
+use Rattle.ground.specs.Blocks.{blocksIn}
+use Rattle.ground.proofs.BlocksJoined.{join-extends}
 use Rattle.laws.specs.Lists.{below}
 use Rattle.laws.proofs.Lists.{append-nil, append-brackets, below-more, map-append}
 use Rattle.frame.specs.Frame.{columnsOf, rowsOf, cellsOf}
@@ -19,10 +21,9 @@ use Rattle.ground.specs.Posts.{void}
 use Rattle.delivery.specs.declared.Answer.{Answer}
 use Rattle.delivery.specs.declared.Answer.the-variants.{Taken}
 use Rattle.meaning.specs.Deliveries.{Reader, Delivery, Desk, answered, after, afterAll, bytesIf, takenText, Keeps, Due, atFirst}
-use Rattle.meaning.specs.Text.{blocksIn, cellsIn}
+use Rattle.meaning.specs.Text.{cellsIn}
 use Rattle.meaning.specs.Rules.{firstBreach}
 use Rattle.meaning.specs.Means.{begunSession, sessionOf, gridOf}
-use Rattle.meaning.proofs.Joined.{join-extends}
 use Rattle.meaning.proofs.EachPost.{grid-cell}
 use Rattle.meaning.proofs.LaterVerdict.{complete-is}
 use Rattle.meaning.proofs.Demand3.{taken-exactly, session-means, grid-means}

@@ -11,7 +11,7 @@ use lib.Dec.{eqb, leb}
 use Rattle.laws.proofs.Tests.{by-test}
 use Rattle.frame.specs.declared.Header.{Header}
 use Rattle.heading.specs.Heading.{headerOf}
-use Rattle.meaning.proofs.BlocksJoined.{text-length, block-at}
+use Rattle.ground.proofs.BlocksJoined.{text-length, block-at}
 use Rattle.written.specs.Cells.{blockCount}
 use Rattle.written.specs.Blocks.{blockSent}
 use Rattle.written.specs.Sending.{sheetFault, blockFault, blockAfter, countOf, sentText}

@@ -1,16 +1,37 @@
 -- Blocks of 1,024 bytes joined in order: so many bytes, and block b of the text is the b-th of them.
-use mathlib.Core.List.{List, map}
+use mathlib.Core.List.{List, _++_, map}
 use mathlib.Core.Path.{_≡_, refl, sym, _∙_, ap}
 use Prim.Native.Nat.{ℕ, zero, suc, _*_, _≤_, _<_}
 use native.Mathlib.Omega.{arith}
 use borrow.Author.Tests.{eqb-true, eqb-false}
 use lib.Dec.{eqb}
-use lib.ListN.{length, length-append}
+use lib.ListN.{length, take, drop, length-append, length-drop}
+use lib.Seq.{take-append-le, drop-append-le, take-all, drop-at}
 use Rattle.laws.specs.Lists.{below, joined}
 use Rattle.laws.proofs.Tests.{by-test}
 use Rattle.laws.proofs.Lists.{joined-more}
-use Rattle.meaning.specs.Text.{blockAt}
-use Rattle.meaning.proofs.Joined.{Extends, join-extends}
+use Rattle.ground.specs.Blocks.{blockAt, blocksIn}
+
+-- a text of k blocks, and the text of these and one block more
+pub record Extends (text more block : List ℕ) (k : ℕ) : Type 0 where
+  pub many : blocksIn text ≡ k
+  pub one-more : blocksIn more ≡ suc k
+  pub same : (b : ℕ) → b < k → blockAt more b ≡ blockAt text b
+  pub next : blockAt more k ≡ block
+
+-- joining a block keeps the earlier ones
+pub join-extends : (text block : List ℕ) (k : ℕ) → length text ≡ 1024 * k → length block ≡ 1024 → Extends text (text ++ block) block k
+join-extends text block k long one =
+    record {
+      many = omega (arith, long);
+      one-more = omega (arith, long, one, length-append text block);
+      same =
+          λ b lt.
+          let room : 1024 * b ≤ length text = omega (arith, long, lt) in
+          let rest : 1024 ≤ length (drop (1024 * b) text) = omega (arith, length-drop (1024 * b) text, long, lt) in
+          ap (take 1024) (drop-append-le (1024 * b) text block room) ∙ take-append-le 1024 (drop (1024 * b) text) block rest;
+      next = ap (take 1024) (drop-at text block (1024 * k) long) ∙ take-all 1024 block (omega (arith, one));
+    }
 
 module _ (at : ℕ → List ℕ) (n : ℕ) (long : (b : ℕ) → b < n → length (at b) ≡ 1024) where
   abbrev textTo : ℕ → List ℕ
