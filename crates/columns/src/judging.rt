@@ -19,13 +19,13 @@ fn judge_grid(h: Header, grid: &[i32]) -> Judged
     requires { ⌜ headerObeys h ≡ true ⌝ }
     ensures { λ r. ⌜ r ≡ judgedBy h (gridFault h (now (grid .entry))) ⌝ }
 {
-    let columns = frame::column_lattice(h).count as usize;
-    let rows = frame::row_lattice(h).count as usize;
+    let columns = frame::columns(h) as usize;
+    let rows = frame::rows(h) as usize;
     let cells = columns * rows;
     if grid.len() < cells {
         return Judged::Bad(12, 0);
     }
-    let n = count_sendable(h.zstep / 10000000, &grid[0..cells]);
+    let n = count_sendable(frame::z_of(h), &grid[0..cells]);
     if n < cells {
         return Judged::Bad(13, n as u64);
     }

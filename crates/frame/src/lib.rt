@@ -7,7 +7,7 @@ ghost use lib.Dec.{leb};
 ghost use lib.Signed.{ltZ};
 ghost use Rattle.laws.specs.Sign.{lesser, greater};
 ghost use Rattle.lattice.specs.Lattice.{latticeOf};
-ghost use Rattle.frame.specs.Frame.{west, east, south, north, cornersInOrder, oneTo2048, wholeFault, cellsOf, zOf, columnPlaceOf, rowPlaceOf};
+ghost use Rattle.frame.specs.Frame.{west, east, south, north, columnsOf, rowsOf, cornersInOrder, oneTo2048, wholeFault, cellsOf, zOf, columnPlaceOf, rowPlaceOf};
 
 // In billionths of the ground unit.
 pub struct Corner {
@@ -73,6 +73,19 @@ pub fn row_lattice(h: Header) -> Lattice
     let ne = h.ne;
     let se = h.se;
     lattice_over(sw.y, nw.y, ne.y, se.y, h.ystep)
+}
+
+// How many columns, and how many rows.
+pub fn columns(h: Header) -> u64
+    ensures { λ r. ⌜ r ≡ columnsOf h ⌝ }
+{
+    column_lattice(h).count
+}
+
+pub fn rows(h: Header) -> u64
+    ensures { λ r. ⌜ r ≡ rowsOf h ⌝ }
+{
+    row_lattice(h).count
 }
 
 fn is_less(a: i64, b: i64) -> bool

@@ -31,12 +31,12 @@ fn head_line(text: &mut [u8], h: Header) -> usize
     requires { ⌜ 216 ≤ length (now text) ⌝ }
     ensures { λ r. ⌜ Within 216 (now (text .entry)) 0 (headLine h) (now (text .exit)) r ⌝ }
 {
-    let rows = frame::row_lattice(h);
-    let columns = frame::column_lattice(h);
+    let rows = frame::rows(h);
+    let columns = frame::columns(h);
     sheet_line(
         text,
-        rows.count,
-        columns.count,
+        rows,
+        columns,
         h.xstep / UNIT,
         h.ystep / UNIT,
         h.zstep / HUNDREDTH,

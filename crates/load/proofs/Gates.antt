@@ -1,7 +1,7 @@
 -- The first tests of a delivery: what each answer of theirs means for the verdict, and what is known past all of them.
 use mathlib.Core.List.{List}
 use Prim.Native.Nat.{ℕ, _≤_}
-use mathlib.Core.Bool.{Bool, true, false, not}
+use mathlib.Core.Bool.{Bool, true, false, not, cond}
 use mathlib.Core.Path.{_≡_, refl}
 use lib.Dec.{eqb, ltb, leb}
 use lib.ListN.{length}
@@ -12,10 +12,10 @@ use Rattle.frame.specs.declared.Header.{Header}
 use Rattle.sheet.specs.RecordA.{recordA}
 use Rattle.session.specs.declared.Session.{Session}
 use Rattle.session.specs.Session.{sound, complete}
-use Rattle.delivery.specs.Deliver.{Verdict, Room, tooShort, again, wrong, beginning, later, verdictOf}
+use Rattle.delivery.specs.Deliver.{Verdict, Room, again, wrong, beginning, later, verdictOf}
 use Rattle.load.specs.declared.steps.Gate.{Gate}
 use Rattle.load.specs.declared.steps.Gate.the-variants.{Stop, Again, Begin, Later}
-use Rattle.load.specs.Steps.{gateOf, Ready}
+use Rattle.load.specs.Steps.{gateBy, gateOf, Ready}
 use Rattle.load.proofs.Readiness.{ready-of}
 
 abbrev pub byGate : Session → ℕ → List ℕ → Room → Gate → Verdict
@@ -24,23 +24,36 @@ byGate s number block m Again = again
 byGate s number block m Begin = beginning m (recordA block)
 byGate s number block m Later = later s number block
 
+-- room, or too little of it
+pub enough : (h : Header) (cells : ℕ) (t : Bool) → leb (cellsOf h) cells ≡ t → ltb cells (cellsOf h) ≡ not t
+enough h cells true e = le-ltb cells (cellsOf h) (leb-true (cellsOf h) cells e)
+enough h cells false e = lt-ltb cells (cellsOf h) (leb-false (cellsOf h) cells e)
+
+by-answers : (s : Session) (number : ℕ) (block : List ℕ) (m : Room) (whole sound held ahead first complete roomy : Bool)
+    → byGate s number block m (gateBy whole sound held ahead first complete roomy)
+    ≡ cond (not whole) (wrong 1 number 0)
+    (cond (not sound) (wrong 2 number 0)
+    (cond held again
+    (cond ahead (wrong 3 number 0)
+    (cond first (beginning m (recordA block))
+    (cond complete (wrong 4 number 0) (cond (not roomy) (wrong 12 number 0) (later s number block)))))))
+by-answers s number block m false b c d e f g = refl
+by-answers s number block m true false c d e f g = refl
+by-answers s number block m true true true d e f g = refl
+by-answers s number block m true true false true e f g = refl
+by-answers s number block m true true false false true f g = refl
+by-answers s number block m true true false false false true g = refl
+by-answers s number block m true true false false false false false = refl
+by-answers s number block m true true false false false false true = refl
+
 pub gate-verdict : (s : Session) (number : ℕ) (block : List ℕ) (m : Room)
     → byGate s number block m (gateOf s number (length block) m) ≡ verdictOf s number block m
 unfolding verdictOf
-gate-verdict s number block m = go (eqb (length block) 1024) refl (sound s) refl (ltb number (s .taken)) refl (ltb (s .taken) number) refl (eqb number 0) refl (complete s) refl (tooShort m (s .header)) refl
-  where
-    go : (a : Bool) → eqb (length block) 1024 ≡ a → (b : Bool) → sound s ≡ b → (c : Bool) → ltb number (s .taken) ≡ c
-        → (d : Bool) → ltb (s .taken) number ≡ d → (e : Bool) → eqb number 0 ≡ e → (f : Bool) → complete s ≡ f
-        → (g : Bool) → tooShort m (s .header) ≡ g
-        → byGate s number block m (gateOf s number (length block) m) ≡ verdictOf s number block m
-    go false p b q c r d t e u f v g w = rw p
-    go true p false q c r d t e u f v g w = rw (p, q)
-    go true p true q true r d t e u f v g w = rw (p, q, r)
-    go true p true q false r true t e u f v g w = rw (p, q, r, t)
-    go true p true q false r false t true u f v g w = rw (p, q, r, t, u)
-    go true p true q false r false t false u true v g w = rw (p, q, r, t, u, v)
-    go true p true q false r false t false u false v true w = rw (p, q, r, t, u, v, w)
-    go true p true q false r false t false u false v false w = rw (p, q, r, t, u, v, w)
+gate-verdict s number block m =
+    let room = leb (cellsOf (s .header)) (m .cells) in
+    rw (enough (s .header) (m .cells) room refl)
+    (by-answers s number block m (eqb (length block) 1024) (sound s) (ltb number (s .taken)) (ltb (s .taken) number) (eqb number 0) (complete s)
+    room)
 
 -- past all of them the delivery is the next one of a sound session, and the grid is long enough
 pub record Due (s : Session) (number : ℕ) (block : List ℕ) (m : Room) : Type 0 where
@@ -49,30 +62,42 @@ pub record Due (s : Session) (number : ℕ) (block : List ℕ) (m : Room) : Type
   pub long : length block ≡ 1024
   pub cells : cellsOf (s .header) ≤ m .cells
 
-pub gate-due : (s : Session) (number : ℕ) (block : List ℕ) (m : Room) → gateOf s number (length block) m ≡ Later → Due s number block m
-gate-due s number block m z = go (eqb (length block) 1024) refl (sound s) refl (ltb number (s .taken)) refl (ltb (s .taken) number) refl (eqb number 0) refl (complete s) refl (tooShort m (s .header)) refl
-  where
-    go : (a : Bool) → eqb (length block) 1024 ≡ a → (b : Bool) → sound s ≡ b → (c : Bool) → ltb number (s .taken) ≡ c
-        → (d : Bool) → ltb (s .taken) number ≡ d → (e : Bool) → eqb number 0 ≡ e → (f : Bool) → complete s ≡ f
-        → (g : Bool) → tooShort m (s .header) ≡ g → Due s number block m
-    go false p b q c r d t e u f v g w = let x : Stop 1 ≡ Later = rw p at z in let y : _≡_ {A = ℕ} 0 1 = cc in absurd (omega arith)
-    go true p false q c r d t e u f v g w = let x : Stop 2 ≡ Later = rw (p, q) at z in let y : _≡_ {A = ℕ} 0 1 = cc in absurd (omega arith)
-    go true p true q true r d t e u f v g w = let x : Again ≡ Later = rw (p, q, r) at z in let y : _≡_ {A = ℕ} 0 1 = cc in absurd (omega arith)
-    go true p true q false r true t e u f v g w = let x : Stop 3 ≡ Later = rw (p, q, r, t) at z in let y : _≡_ {A = ℕ} 0 1 = cc in absurd (omega arith)
-    go true p true q false r false t true u f v g w = let x : Begin ≡ Later = rw (p, q, r, t, u) at z in let y : _≡_ {A = ℕ} 0 1 = cc in absurd (omega arith)
-    go true p true q false r false t false u true v g w = let x : Stop 4 ≡ Later = rw (p, q, r, t, u, v) at z in let y : _≡_ {A = ℕ} 0 1 = cc in absurd (omega arith)
-    go true p true q false r false t false u false v true w = let x : Stop 12 ≡ Later = rw (p, q, r, t, u, v, w) at z in let y : _≡_ {A = ℕ} 0 1 = cc in absurd (omega arith)
-    go true p true q false r false t false u false v false w =
-        let n : number ≡ s .taken = omega (arith, ltb-false number (s .taken) r, ltb-false (s .taken) number t) in
-        let o : number ≡ 0 → ⊥ = eqb-false number 0 u in
-        record {
-          ready = ready-of s q (omega arith);
-          taken-is = n;
-          long = eqb-true (length block) 1024 p;
-          cells = ltb-false (m .cells) (cellsOf (s .header)) w;
-        }
+record Past (whole sound held ahead first roomy : Bool) : Type 0 where
+  whole-is : whole ≡ true
+  sound-is : sound ≡ true
+  held-is : held ≡ false
+  ahead-is : ahead ≡ false
+  first-is : first ≡ false
+  roomy-is : roomy ≡ true
 
--- room, or too little of it
-pub enough : (h : Header) (cells : ℕ) (t : Bool) → leb (cellsOf h) cells ≡ t → ltb cells (cellsOf h) ≡ not t
-enough h cells true e = le-ltb cells (cellsOf h) (leb-true (cellsOf h) cells e)
-enough h cells false e = lt-ltb cells (cellsOf h) (leb-false (cellsOf h) cells e)
+stop-later : (kind : ℕ) → Stop kind ≡ Later → ⊥
+stop-later kind x = let y : _≡_ {A = ℕ} 0 1 = cc in omega arith
+
+past : (whole sound held ahead first complete roomy : Bool) → gateBy whole sound held ahead first complete roomy ≡ Later
+    → Past whole sound held ahead first roomy
+past false b c d e f g z = absurd (stop-later 1 z)
+past true false c d e f g z = absurd (stop-later 2 z)
+past true true true d e f g z = let x : Again ≡ Later = z in let y : _≡_ {A = ℕ} 0 1 = cc in absurd (omega arith)
+past true true false true e f g z = absurd (stop-later 3 z)
+past true true false false true f g z = let x : Begin ≡ Later = z in let y : _≡_ {A = ℕ} 0 1 = cc in absurd (omega arith)
+past true true false false false true g z = absurd (stop-later 4 z)
+past true true false false false false false z = absurd (stop-later 12 z)
+past true true false false false false true z =
+    record { whole-is = refl; sound-is = refl; held-is = refl; ahead-is = refl; first-is = refl; roomy-is = refl }
+
+pub gate-due : (s : Session) (number : ℕ) (block : List ℕ) (m : Room) → gateOf s number (length block) m ≡ Later → Due s number block m
+gate-due s number block m z =
+    let room = leb (cellsOf (s .header)) (m .cells) in
+    let p =
+    past (eqb (length block) 1024) (sound s) (ltb number (s .taken)) (ltb (s .taken) number) (eqb number 0) (complete s) room z
+    in
+    let n : number ≡ s .taken =
+    omega (arith, ltb-false number (s .taken) (p .held-is), ltb-false (s .taken) number (p .ahead-is))
+    in
+    let o : number ≡ 0 → ⊥ = eqb-false number 0 (p .first-is) in
+    record {
+      ready = ready-of s (p .sound-is) (omega (arith, o, n));
+      taken-is = n;
+      long = eqb-true (length block) 1024 (p .whole-is);
+      cells = leb-true (cellsOf (s .header)) (m .cells) (p .roomy-is);
+    }

@@ -5,13 +5,15 @@ use Prim.Native.Nat.{ℕ, _≤_, _<_, _+_}
 use native.Mathlib.Omega.{arith}
 use lib.IntN.{ℤ, natAbs}
 use lib.ListN.{length}
-use mathlib.Core.Bool.{true, false, Bool}
-use borrow.Author.Tests.{eq-eqb, ne-eqb}
-use lib.Dec.{eqb}
+use mathlib.Core.Bool.{true, false, Bool, cond, not}
+use borrow.Author.Tests.{eq-eqb, ne-eqb, lt-ltb, le-ltb}
+use lib.Dec.{eqb, ltb}
 use Rattle.field.specs.Field.{fault}
 use Rattle.field.specs.declared.Fault.{Fault}
 use Rattle.frame.specs.Frame.{zOf, cellsOf}
+use Rattle.profile.specs.RecordB.{recordB}
 use Rattle.profile.specs.RecordC.{recordC}
+use Rattle.session.specs.Session.{busy}
 use Rattle.session.specs.declared.Session.{Session}
 use Rattle.session.specs.declared.Profile.{Profile}
 use Rattle.ground.specs.declared.Tally.{Tally}
@@ -21,7 +23,7 @@ use Rattle.ground.proofs.Tallies.{none-fair}
 use Rattle.ground.proofs.Heights.{heights-length}
 use Rattle.posts.specs.Steps.{BlockScanned}
 use Rattle.posts.specs.declared.Scan.{Scan}
-use Rattle.delivery.specs.Deliver.{Verdict, wrong, unless, filling, heightsHere, nextCell, fills, finishedSession}
+use Rattle.delivery.specs.Deliver.{Verdict, wrong, unless, filling, heightsHere, nextCell, fills, finishedSession, further, opening, later}
 use Rattle.load.specs.Steps.{Stepped, Ready, fillStep, stepVerdict, Filling, Placing, finishStep}
 use Rattle.load.specs.declared.steps.Step.the-variants.{Wrong, Fills}
 use Rattle.load.specs.declared.steps.Step.{Step}
@@ -106,6 +108,33 @@ module _ (s : Session) (p : Profile) (byte n : ℕ) (block : List ℕ) (before a
 pub same-step : (s : Session) {v w : Verdict} (before after : List ℤ) {r : Step} → v ≡ w → Stepped s v before after r
     → Stepped s w before after r
 same-step s before after e st = record { verdict-is = st .verdict-is ∙ e; kept = st .kept; fits = st .fits }
+
+-- which of a later block's three ways is gone
+pick-first : (b : Bool) (x y : Verdict) → b ≡ true → x ≡ cond b x y
+pick-first b x y e = sym (ap (λ (t : Bool). cond t x y) e)
+
+pick-second : (b : Bool) (x y : Verdict) → b ≡ false → y ≡ cond b x y
+pick-second b x y e = sym (ap (λ (t : Bool). cond t x y) e)
+
+module _ (s : Session) (number : ℕ) (block : List ℕ) where
+  pub later-goes-on : (s .profile .posts ≡ 0 → ⊥) → further s number block ≡ later s number block
+  later-goes-on h = pick-first (busy s) (further s number block) _ (ap not (ne-eqb (s .profile .posts) 0 h))
+
+  module _ (idle : s .profile .posts ≡ 0) where
+    idle-is : busy s ≡ false
+    idle-is = ap not (eq-eqb (s .profile .posts) 0 idle)
+
+    pub later-opens : s .closed < s .header .profiles
+        → opening s number block (recordB (s .closed + 1) block) ≡ later s number block
+    later-opens h =
+        pick-first (ltb (s .closed) (s .header .profiles)) (opening s number block (recordB (s .closed + 1) block)) _ (lt-ltb (s .closed) (s .header .profiles) h)
+        ∙ pick-second (busy s) (further s number block) _ idle-is
+
+    pub later-ends : s .header .profiles ≤ s .closed
+        → unless (recordC block) number (fills (finishedSession s) 0 []) ≡ later s number block
+    later-ends h =
+        pick-second (ltb (s .closed) (s .header .profiles)) (opening s number block (recordB (s .closed + 1) block)) _ (le-ltb (s .closed) (s .header .profiles) h)
+        ∙ pick-second (busy s) (further s number block) _ idle-is
 
 pub finish-stepped : (s : Session) (number : ℕ) (block : List ℕ) (scratch : List ℤ) (st : Step) → st ≡ finishStep s number block
     → Stepped s (unless (recordC block) number (fills (finishedSession s) 0 [])) scratch scratch st

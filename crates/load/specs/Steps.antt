@@ -2,9 +2,9 @@
 use mathlib.Core.List.{List}
 use mathlib.Core.Path.{_≡_}
 use lib.IntN.{ℤ, natAbs}
-use mathlib.Core.Bool.{cond, not, true, false}
+use mathlib.Core.Bool.{Bool, cond, not, true, false}
 use Prim.Native.Nat.{ℕ, _+_, _-_, _≤_, _<_}
-use lib.Dec.{ltb, eqb}
+use lib.Dec.{ltb, leb, eqb}
 use lib.ListN.{take, length}
 use Rattle.frame.specs.Frame.{cellsOf, columnsOf, rowsOf, zOf}
 use Rattle.profile.specs.declared.record_b.Head.{Head}
@@ -30,15 +30,17 @@ use Rattle.load.specs.declared.steps.Step.the-variants.{Wrong, Fills}
 abbrev pub room : ℕ → Room
 room cells = record { cells = cells }
 
--- the first tests, in their order
+-- the first tests, in their order: by their answers, and of a delivery
+abbrev pub gateBy : Bool → Bool → Bool → Bool → Bool → Bool → Bool → Gate
+gateBy whole sound held ahead first complete roomy =
+    cond (not whole) (Stop 1)
+    (cond (not sound) (Stop 2)
+    (cond held Again (cond ahead (Stop 3) (cond first Begin (cond complete (Stop 4) (cond (not roomy) (Stop 12) Later))))))
+
 abbrev pub gateOf : Session → ℕ → ℕ → Room → Gate
 gateOf s number bytes r =
-    cond (not (eqb bytes 1024)) (Stop 1)
-    (cond (not (sound s)) (Stop 2)
-    (cond (ltb number (s .taken)) Again
-    (cond (ltb (s .taken) number) (Stop 3)
-    (cond (eqb number 0) Begin
-    (cond (complete s) (Stop 4) (cond (tooShort r (s .header)) (Stop 12) Later))))))
+    gateBy (eqb bytes 1024) (sound s) (ltb number (s .taken)) (ltb (s .taken) number) (eqb number 0) (complete s)
+    (leb (cellsOf (s .header)) (r .cells))
 
 -- the open profile and the session with n posts more, of tally u
 abbrev pub readWith : Profile → ℕ → Tally → Profile

@@ -6,7 +6,7 @@ use session::Session;
 ghost use mathlib.Core.Path.{_≡_};
 ghost use Prim.Native.Nat.{_+_, _*_, _^_, _≤_, _<_};
 ghost use Rattle.frame.specs.Frame.{rowsOf};
-ghost use Rattle.delivery.specs.Deliver.{closedSession, nextCell, profileTally, sheetTally};
+ghost use Rattle.delivery.specs.Deliver.{closedSession, nextCell};
 ghost use Rattle.ground.specs.Posts.{merged};
 ghost use Rattle.load.specs.Steps.{readWith, filledWith, fillStep, Filling, Placing};
 
@@ -50,32 +50,17 @@ pub(crate) fn merge(t: Tally, u: Tally) -> Tally
     }
 }
 
-fn profile_tally(p: Profile) -> Tally
-    ensures { λ r. ⌜ r ≡ profileTally p ⌝ }
-{
-    Tally {
-        filled: p.filled,
-        low: p.low,
-        high: p.high,
-    }
-}
-
-fn sheet_tally(s: Session) -> Tally
-    ensures { λ r. ⌜ r ≡ sheetTally s ⌝ }
-{
-    Tally {
-        filled: s.filled,
-        low: s.low,
-        high: s.high,
-    }
-}
-
 // The open profile with n posts more, of tally u.
 fn read_on(p: Profile, n: u64, u: Tally) -> Profile
     requires { ⌜ (p .read + n ≤ 2048) × ((p .filled ≤ 2 ^ 32) × (u .filled ≤ 2 ^ 32)) ⌝ }
     ensures { λ r. ⌜ r ≡ readWith p n u ⌝ }
 {
-    let t = merge(profile_tally(p), u);
+    let before = Tally {
+        filled: p.filled,
+        low: p.low,
+        high: p.high,
+    };
+    let t = merge(before, u);
     Profile {
         posts: p.posts,
         row: p.row,
@@ -95,7 +80,12 @@ fn fill_session(s: Session, column: u64, p: Profile, n: u64, u: Tally) -> Sessio
     ensures { λ r. ⌜ r ≡ filledWith s column p n u ⌝ }
 {
     let header = s.header;
-    let t = merge(sheet_tally(s), u);
+    let before = Tally {
+        filled: s.filled,
+        low: s.low,
+        high: s.high,
+    };
+    let t = merge(before, u);
     let profile = read_on(p, n, u);
     Session {
         header,
@@ -138,8 +128,8 @@ fn next_cell(s: Session, column: u64, p: Profile) -> u64
     ensures { λ r. ⌜ r ≡ nextCell s column p ⌝ }
 {
     let h = s.header;
-    let rows = frame::row_lattice(h);
-    (column + s.closed) * rows.count + p.row + p.read
+    let rows = frame::rows(h);
+    (column + s.closed) * rows + p.row + p.read
 }
 
 // A good block of profile p: the session after it, or the closing rule it breaks.

@@ -4,6 +4,8 @@ use mathlib.Core.Path.{_≡_, sym, ap, _∙_, ap₂, refl}
 use Prim.Native.Nat.{ℕ, zero, suc, min, _+_, _-_, _≤_, _*_, _<_}
 use native.Mathlib.Nat.{zero-min, min-zero, suc-min-suc, suc-mul, mul-le-mul-right}
 use lib.IntN.{ℤ}
+use mir.Syntax.{w32, w64}
+use mir.Val.{Fits}
 use lib.ListN.{take, drop, length, length-take}
 use lib.Seq.{take-nil, drop-drop}
 use mathlib.Core.Bool.{true}
@@ -65,6 +67,17 @@ pub zero-block : (template : List ℕ) (h : Header) (grid : List ℤ) {written :
 unfolding zeroBy blockZero
 zero-block template h grid e el eg ec = e ∙ (λ i. zeroBy template h (el i) (eg i) (ec i))
 
+-- ---- in the machine's numbers
+
+pub small-fits : {n : ℕ} → n ≤ 4194304 → Fits w64 n
+small-fits h = omega (arith, h)
+
+pub bytes-fit : (r n : ℕ) → r + n ≤ 4194304 → Fits w64 (r * 4)
+bytes-fit r n h = omega (arith, h)
+
+pub some-of : {k : ℕ} → (k ≡ 0 → ⊥) → 1 ≤ k
+some-of n = omega (arith, n)
+
 -- ---- a profile in the grid
 
 module _ {h : Header} {grid : List ℤ} {column row posts k : ℕ} {block : List ℕ} (a : ProfileAsked h grid column row posts k block) where
@@ -104,6 +117,37 @@ module _ {h : Header} {grid : List ℤ} {column row posts k : ℕ} {block : List
       omega
       (arith, mul-le-mul-right (rowsOf h) (a .inside), suc-mul column (rowsOf h), cells-most h (a .sheet .obeys) (columnsOf h) (rowsOf h) refl refl, row-posts)
 
+  -- the machine's column, posts and first cell
+  pub column-number : Fits w64 (column + 1)
+  column-number = omega (arith, column-most)
+
+  pub column-word : Fits w32 (column + 1)
+  column-word = omega (arith, column-most)
+
+  pub posts-word : Fits w32 posts
+  posts-word = omega (arith, posts-most)
+
+  pub most-at : {r : ℕ} → r ≡ from → r + posts ≤ 4194304
+  most-at e = omega (arith, from-most, e)
+
+  pub room-at : {r : ℕ} → r ≡ from → r + posts ≤ length grid
+  room-at e = omega (arith, posts-room, e)
+
+  pub from-first : {r : ℕ} → r ≡ from → r ≡ from + 0
+  from-first e = omega (arith, e)
+
+  pub many-first : {n : ℕ} → n ≡ min posts 146 → n ≡ min 146 (posts - 0)
+  many-first e = omega (arith, e)
+
+  pub none-skipped : 0 ≤ posts
+  none-skipped = omega arith
+
+  pub skip-most : {skip : ℕ} → skip < posts → skip ≤ 4194304
+  skip-most h = omega (arith, h, posts-most)
+
+  pub skipped-most : {skip r : ℕ} → skip < posts → r ≡ from → r + skip ≤ 4194304
+  skipped-most h e = omega (arith, h, e, from-most)
+
   pub cells-place : sent ≡ take posts (drop from grid)
   cells-place =
       profile-place cells some
@@ -138,6 +182,9 @@ module _ {h : Header} {grid : List ℤ} {column row posts k : ℕ} {block : List
 
     pub lent-room : skip ≤ posts → r + n ≤ length grid
     lent-room k = omega (arith, k, posts-room, e, f)
+
+    pub lent-small : skip ≤ posts → r + n ≤ 4194304
+    lent-small k = omega (arith, k, from-most, e, f)
 
   -- ---- the block that is written of them
 

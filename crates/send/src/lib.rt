@@ -35,8 +35,8 @@ fn write_later(h: Header, grid: &[i32], number: u64, block: &mut [u8])
     ensures { λ _. ⌜ now (block .exit) ≡ laterBlock h (now (grid .entry)) number ⌝ }
 {
     let found = scan::find_column(
-        one_block::columns_of(h),
-        one_block::rows_of(h),
+        frame::columns(h) as usize,
+        frame::rows(h) as usize,
         grid,
         number,
     );

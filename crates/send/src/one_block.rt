@@ -5,41 +5,20 @@ use paint::profile_blocks;
 use paint::zero;
 ghost use mathlib.Core.Path.{_≡_};
 ghost use mathlib.Core.Bool.{true};
-ghost use Prim.Native.Nat.{_*_, _+_, _<_, min};
+ghost use Prim.Native.Nat.{_*_, _+_, _<_};
 ghost use lib.IntN.{pos, _+ℤ_, _*ℤ_};
-ghost use Rattle.frame.specs.Frame.{columnsOf, rowsOf, zOf};
+ghost use Rattle.frame.specs.Frame.{columnsOf, rowsOf};
 ghost use Rattle.heading.specs.Heading.{headerObeys};
 ghost use Rattle.written.specs.Cells.{blockCount};
 ghost use Rattle.written.specs.Blocks.{blockZero, profileBlock, xSent, yOfRow};
 ghost use Rattle.send.specs.SendSteps.{SendableSheet, ProfileAsked, ZeroAsked};
 ghost use Rattle.send.specs.BlockSteps.{PlaceAsked};
 
-pub(crate) fn columns_of(h: Header) -> usize
-    requires { ⌜ headerObeys h ≡ true ⌝ }
-    ensures { λ r. ⌜ r ≡ columnsOf h ⌝ }
-{
-    frame::column_lattice(h).count as usize
-}
-
-pub(crate) fn rows_of(h: Header) -> usize
-    requires { ⌜ headerObeys h ≡ true ⌝ }
-    ensures { λ r. ⌜ r ≡ rowsOf h ⌝ }
-{
-    frame::row_lattice(h).count as usize
-}
-
-// The z spacing in hundredths.
-fn z_of(h: Header) -> u64
-    ensures { λ r. ⌜ r ≡ zOf h ⌝ }
-{
-    h.zstep / 10000000
-}
-
 pub(crate) fn count_of(h: Header, grid: &[i32]) -> u64
     requires { ⌜ SendableSheet h (now grid) ⌝ }
     ensures { λ r. ⌜ r ≡ blockCount h (now (grid .entry)) ⌝ }
 {
-    scan::count_blocks(columns_of(h), rows_of(h), grid)
+    scan::count_blocks(frame::columns(h) as usize, frame::rows(h) as usize, grid)
 }
 
 // Block 0: "the template with numeric fields rewritten, n set to the columns, extremes worked out".
@@ -47,15 +26,15 @@ pub(crate) fn write_block_zero(template: &[u8], h: Header, grid: &[i32], block: 
     requires { ⌜ ZeroAsked (now template) h (now grid) (now block) ⌝ }
     ensures { λ _. ⌜ now (block .exit) ≡ blockZero (now (template .entry)) h (now (grid .entry)) ⌝ }
 {
-    let columns = columns_of(h);
-    let cells = columns * rows_of(h);
+    let columns = frame::columns(h);
+    let cells = (columns * frame::rows(h)) as usize;
     let extremes = columns::extremes_of(&grid[0..cells]);
     zero::write_zero(
         template,
         h,
         extremes.least,
         extremes.greatest,
-        columns as u64,
+        columns,
         block,
     );
 }
@@ -91,17 +70,7 @@ fn cell_at(h: Header, column: usize, row: usize) -> usize
     requires { ⌜ (headerObeys h ≡ true) × ((column < columnsOf h) × (row < rowsOf h)) ⌝ }
     ensures { λ r. ⌜ r ≡ column * rowsOf h + row ⌝ }
 {
-    column * rows_of(h) + row
-}
-
-// So many, but no more than a block has room for.
-fn no_more(n: usize, most: usize) -> usize
-    ensures { λ r. ⌜ r ≡ min most n ⌝ }
-{
-    if n < most {
-        return n;
-    }
-    most
+    column * frame::rows(h) as usize + row
 }
 
 // A profile's first block: head and up to 146 posts.
@@ -112,7 +81,7 @@ fn write_opening(h: Header, grid: &[i32], column: usize, row: usize, posts: usiz
     let from = cell_at(h, column, row);
     let end = from + posts;
     let extremes = columns::extremes_of(&grid[from..end]);
-    let here = from + no_more(posts, 146);
+    let here = from + figures::fewer_of(posts as u64, 146) as usize;
     let x = x_of(h, column);
     let y = y_of(h, row);
     profile_blocks::write_first(
@@ -122,7 +91,7 @@ fn write_opening(h: Header, grid: &[i32], column: usize, row: usize, posts: usiz
         y,
         extremes.least,
         extremes.greatest,
-        z_of(h),
+        frame::z_of(h),
         &grid[from..here],
         block,
     );
@@ -147,6 +116,6 @@ pub(crate) fn write_profile_block(
     }
     let skip = 146 + 170 * (k as usize - 1);
     let from = cell_at(h, column, row) + skip;
-    let here = from + no_more(posts - skip, 170);
-    profile_blocks::write_further(z_of(h), &grid[from..here], block);
+    let here = from + figures::fewer_of((posts - skip) as u64, 170) as usize;
+    profile_blocks::write_further(frame::z_of(h), &grid[from..here], block);
 }

@@ -20,7 +20,7 @@ fn write_column(h: Header, grid: &[i32], column: usize, at: usize, out: &mut [u8
     requires { ⌜ ColumnAsked h (now grid) column at (now out) ⌝ }
     ensures { λ r. ⌜ Puts (now (out .entry)) at (columnText h (now (grid .entry)) column) (now (out .exit)) r × (r ≡ at + 1024 * blocksFor (length (cellsSent h (now (grid .entry)) column))) ⌝ }
 {
-    let found = scan::column_at(one_block::rows_of(h), grid, column);
+    let found = scan::column_at(frame::rows(h) as usize, grid, column);
     let blocks = columns::blocks_for(found.posts);
     let mut from = at;
     let mut k = 0;
@@ -46,7 +46,7 @@ fn write_columns(h: Header, grid: &[i32], out: &mut [u8]) -> usize
     requires { ⌜ ColumnsAsked h (now grid) (now out) ⌝ }
     ensures { λ r. ⌜ Puts (now (out .entry)) 1024 (columnsText h (now (grid .entry)) (columnsOf h)) (now (out .exit)) r × (r ≡ length (now (out .entry))) ⌝ }
 {
-    let columns = one_block::columns_of(h);
+    let columns = frame::columns(h) as usize;
     let mut at = 1024;
     let mut c = 0;
     while c < columns {

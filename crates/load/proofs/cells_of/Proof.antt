@@ -4,26 +4,24 @@ use Prim.Native.Nat.{_≤_, _*_}
 use native.Mathlib.Nat.{mul-le-mul}
 use native.Mathlib.Omega.{arith}
 use mathlib.Core.Path.{ap₂}
-use Rattle.lattice.specs.declared.Lattice.{Lattice}
 use Rattle.load.proofs.cells_of.Statement.{statement}
 use Rattle.load.proofs.cells_of.Tie as tie
 
-column-lattice-requires : tie.Need-column-lattice-requires
-column-lattice-requires c κs = search needs
+columns-requires : tie.Need-columns-requires
+columns-requires c κs = search needs
 
-row-lattice-requires : tie.Need-row-lattice-requires
-row-lattice-requires c κs = search needs
+rows-requires : tie.Need-rows-requires
+rows-requires c κs = search needs
 
 mul-result : tie.Need-mul-result
 mul-result c =
-    let o = c .before .before .before .before in
-    let x : c .before .before .before .column-lattice .result .count ≤ 2048 = rw (c .before .before .before .column-lattice .ensures) (o .pre .0) in
-    let y : c .before .before .row-lattice .result .count ≤ 2048 = rw (c .before .before .row-lattice .ensures) (o .pre .1) in
+    let k = c .before in
+    let x : k .columns .result ≤ 2048 = omega (arith, k .columns .ensures, k .before .pre .0) in
+    let y : c .rows .result ≤ 2048 = omega (arith, c .rows .ensures, k .before .pre .1) in
     omega (arith, mul-le-mul x y)
 
 returns : tie.Need-returns
-returns c = ap₂ (λ (x y : Lattice). x .count * y .count) (c .before .before .before .column-lattice .ensures) (c .before .before .row-lattice .ensures)
+returns c = ap₂ _*_ (c .before .columns .ensures) (c .rows .ensures)
 
 pub cells-of-spec : {M : Type 1} → statement M
-cells-of-spec =
-    tie.close (tie.spec column-lattice-requires row-lattice-requires mul-result returns)
+cells-of-spec = tie.close (tie.spec columns-requires rows-requires mul-result returns)

@@ -4,15 +4,15 @@ use Rattle.send.proofs.AnswerLaws.{asked-find, found-asked, found-block
 use Rattle.send.proofs.write_later.Statement.{statement}
 use Rattle.send.proofs.write_later.Tie as tie
 
-columns-of-requires : tie.Need-columns-of-requires
-columns-of-requires c κs = search needs
+columns-requires : tie.Need-columns-requires
+columns-requires c κs = tt
 
-rows-of-requires : tie.Need-rows-of-requires
-rows-of-requires c κs = search needs
+rows-requires : tie.Need-rows-requires
+rows-requires c κs = tt
 
 find-column-requires : tie.Need-find-column-requires
 find-column-requires c κs =
-    asked-find (c .before .columns-of .result) (c .rows-of .result) (c .before .columns-of .ensures) (c .rows-of .ensures) (c .before .before .before .pre)
+    asked-find (c .before .columns .result) (c .rows .result) (c .before .columns .ensures) (c .rows .ensures) (c .before .before .before .pre)
 
 sub-k : tie.Need-sub-k
 sub-k c = search needs
@@ -21,7 +21,7 @@ write-profile-block-requires : tie.Need-write-profile-block-requires
 write-profile-block-requires c κs =
     let f = c .before .before in
     let o = f .before .before .before .before in
-    found-asked (o .args .h) (f .before .before .columns-of .ensures) (f .before .rows-of .ensures) (f .find-column .ensures) (o .pre)
+    found-asked (o .args .h) (f .before .before .columns .ensures) (f .before .rows .ensures) (f .find-column .ensures) (o .pre)
 
 same-length : tie.Need-same-length
 same-length c = search needs
@@ -31,7 +31,7 @@ returns c =
     let w = c .before .before in
     let f = w .before .before .before in
     let o = f .before .before .before .before in
-    found-block (o .args .h) (f .before .before .columns-of .ensures) (f .before .rows-of .ensures) (f .find-column .ensures)
+    found-block (o .args .h) (f .before .before .columns .ensures) (f .before .rows .ensures) (f .find-column .ensures)
     (w .write-profile-block .last .1 .1 .1 .1 .1 .1 .0)
     (w .write-profile-block .ensures)
 
@@ -39,8 +39,8 @@ pub write-later-spec : {M : Type 1} → statement M
 write-later-spec =
     tie.close
     (tie.spec
-    columns-of-requires
-    rows-of-requires
+    columns-requires
+    rows-requires
     find-column-requires
     sub-k
     write-profile-block-requires

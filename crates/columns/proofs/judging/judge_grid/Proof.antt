@@ -1,42 +1,37 @@
 -- Too few cells, a cell that cannot be sent, or none: GridJudged.
 use borrow.Author.Needs.{needs}
-use mathlib.Core.Path.{_≡_, ap, ap₂, _∙_}
+use mathlib.Core.Path.{_≡_, ap₂, _∙_}
 use Prim.Native.Nat.{_*_, ℕ, _-_, _≤_}
 use native.Mathlib.Omega.{arith}
 use lib.ListN.{take, length}
-use Rattle.lattice.specs.declared.Lattice.{Lattice}
-use Rattle.frame.specs.Frame.{columnsOf, rowsOf, cellsOf, zOf}
+use Rattle.frame.specs.Frame.{cellsOf, zOf}
 use Rattle.written.specs.Blocks.{sheetCells}
 use Rattle.written.specs.Cells.{sendable}
 use Rattle.columns.proofs.GridJudged.{cells-most, grid-short, cell-stops, grid-good}
 use Rattle.columns.proofs.judging.judge_grid.Statement.{statement}
 use Rattle.columns.proofs.judging.judge_grid.Tie as tie
 
-column-lattice-requires : tie.Need-column-lattice-requires
-column-lattice-requires c κs = search needs
+columns-requires : tie.Need-columns-requires
+columns-requires c κs = search needs
 
-row-lattice-requires : tie.Need-row-lattice-requires
-row-lattice-requires c κs = search needs
+rows-requires : tie.Need-rows-requires
+rows-requires c κs = search needs
 
-columns-are : (c : tie.After-row-lattice) → c .before .column-lattice .result .count ≡ columnsOf (c .before .before .args .h)
-columns-are c = ap (λ (l : Lattice). l .count) (c .before .column-lattice .ensures)
-
-rows-are : (c : tie.After-row-lattice) → c .row-lattice .result .count ≡ rowsOf (c .before .before .args .h)
-rows-are c = ap (λ (l : Lattice). l .count) (c .row-lattice .ensures)
-
-many : (c : tie.After-row-lattice)
-    → c .before .column-lattice .result .count * c .row-lattice .result .count ≡ cellsOf (c .before .before .args .h)
-many c = ap₂ _*_ (columns-are c) (rows-are c)
+many : (c : tie.After-rows) → c .before .columns .result * c .rows .result ≡ cellsOf (c .before .before .args .h)
+many c = ap₂ _*_ (c .before .columns .ensures) (c .rows .ensures)
 
 mul-cells : tie.Need-mul-cells
 mul-cells c =
     let s = c .before .before in
-    omega (arith, cells-most (s .args .h) (s .pre) _ _ (columns-are c) (rows-are c))
+    omega (arith, cells-most (s .args .h) (s .pre) _ _ (c .before .columns .ensures) (c .rows .ensures))
 
 returns : tie.Need-returns
 returns c =
     let a = c .before .before .before .args in
     grid-short (a .h) (a .grid .now) (omega (arith, c .if1 .taken, many (c .before)))
+
+z-of-requires : tie.Need-z-of-requires
+z-of-requires c κs = search needs
 
 sub-count-sendable : tie.Need-sub-count-sendable
 sub-count-sendable c = search needs
@@ -57,8 +52,8 @@ counted : (c : tie.After-count-sendable)
     → c .count-sendable .result ≡ sendable (zOf (start c .args .h)) (sheetCells (start c .args .h) (start c .args .grid .now))
 counted c =
     let r = c .before .before .before .before in
-    let n : r .before .column-lattice .result .count * r .row-lattice .result .count - 0 ≡ cellsOf (start c .args .h) = omega (arith, many r) in
-    c .count-sendable .ensures ∙ ap (λ (m : ℕ). sendable (zOf (start c .args .h)) (take m (start c .args .grid .now))) n
+    let n : r .before .columns .result * r .rows .result - 0 ≡ cellsOf (start c .args .h) = omega (arith, many r) in
+    c .count-sendable .ensures ∙ ap₂ (λ (z m : ℕ). sendable z (take m (start c .args .grid .now))) (c .before .before .z-of .ensures) n
 
 room : (c : tie.After-count-sendable) → cellsOf (start c .args .h) ≤ length (start c .args .grid .now)
 room c = let e = c .before .before .before in omega (arith, e .if1 .left, many (e .before))
@@ -81,10 +76,11 @@ pub judge-grid-spec : {M : Type 1} → statement M
 judge-grid-spec =
     tie.close
     (tie.spec
-    column-lattice-requires
-    row-lattice-requires
+    columns-requires
+    rows-requires
     mul-cells
     returns
+    z-of-requires
     sub-count-sendable
     part-count-sendable-start
     part-count-sendable-end

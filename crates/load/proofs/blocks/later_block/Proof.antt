@@ -1,10 +1,10 @@
 -- An open profile goes on, the next one opens, or record C ends the sheet.
 use mathlib.Core.Bool.{not}
-use mathlib.Core.Path.{ap, sym}
+use mathlib.Core.Path.{ap}
 use native.Mathlib.Omega.{arith}
-use borrow.Author.Tests.{ne-eqb, eq-eqb, lt-ltb, le-ltb}
+use borrow.Author.Tests.{ne-eqb, eq-eqb}
 use borrow.Author.Needs.{needs}
-use Rattle.load.proofs.Judged.{same-step, finish-stepped}
+use Rattle.load.proofs.Judged.{same-step, later-goes-on, later-opens, later-ends, finish-stepped}
 use Rattle.load.proofs.blocks.later_block.Statement.{statement}
 use Rattle.load.proofs.blocks.later_block.Tie as tie
 
@@ -13,7 +13,7 @@ further-block-requires c κs =
     let o = c .before .before .before .before .before .before in
     record {
       ready = o .pre .ready;
-      busy-is = ap not (ne-eqb _ _ (c .before .if1 .taken));
+      busy-is = ap not (ne-eqb (o .args .s .profile .posts) 0 (c .before .if1 .taken));
       taken-is = o .pre .taken-is;
       blocks = omega (arith, o .pre .ready .blocks-most, o .pre .taken-is);
       long = o .pre .long;
@@ -27,13 +27,13 @@ returns : tie.Need-returns
 returns c =
     let o = c .before .before .before .before .before .before .before .before in
     same-step (o .args .s) (o .args .scratch .now) (c .before .further-block .last .1 .1 .1 .0)
-    (sym (simp (ap not (ne-eqb _ _ (c .before .before .before .if1 .taken)))))
+    (later-goes-on (o .args .s) (o .args .number) (o .args .block .now) (c .before .before .before .if1 .taken))
     (c .before .further-block .ensures)
 
 start-profile-requires : tie.Need-start-profile-requires
 start-profile-requires c κs =
     let o = c .before .before .before .before .before .before .before .before .before in
-    (o .pre, (ap not (eq-eqb _ _ (c .before .before .before .before .if1 .left)), c .before .if2 .taken))
+    (o .pre, (ap not (eq-eqb (o .args .s .profile .posts) 0 (c .before .before .before .before .if1 .left)), c .before .if2 .taken))
 
 same-length-2 : tie.Need-same-length-2
 same-length-2 c = search needs
@@ -42,7 +42,7 @@ returns-2 : tie.Need-returns-2
 returns-2 c =
     let o = c .before .before .before .before .before .before .before .before .before .before .before in
     same-step (o .args .s) (o .args .scratch .now) (c .before .start-profile .last .1 .1 .1 .0)
-    (sym (simp (ap not (eq-eqb _ _ (c .before .before .before .before .before .before .if1 .left)), lt-ltb _ _ (c .before .before .before .if2 .taken))))
+    (later-opens (o .args .s) (o .args .number) (o .args .block .now) (c .before .before .before .before .before .before .if1 .left) (c .before .before .before .if2 .taken))
     (c .before .start-profile .ensures)
 
 finish-sheet-requires : tie.Need-finish-sheet-requires
@@ -52,7 +52,7 @@ returns-3 : tie.Need-returns-3
 returns-3 c =
     let o = c .before .before .before .before .before .before .before .before .before in
     same-step (o .args .s) (o .args .scratch .now) (o .args .scratch .now)
-    (sym (simp (ap not (eq-eqb _ _ (c .before .before .before .before .if1 .left)), le-ltb _ _ (c .before .if2 .left))))
+    (later-ends (o .args .s) (o .args .number) (o .args .block .now) (c .before .before .before .before .if1 .left) (c .before .if2 .left))
     (finish-stepped (o .args .s) (o .args .number) (o .args .block .now) (o .args .scratch .now) (c .finish-sheet .result) (c .finish-sheet .ensures))
 
 pub later-block-spec : {M : Type 1} → statement M

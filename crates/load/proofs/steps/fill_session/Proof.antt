@@ -1,6 +1,5 @@
 -- The session with a block more.
 use borrow.Author.Needs.{needs}
-use native.Mathlib.Omega.{arith}
 use mathlib.Core.Path.{_∙_, ap}
 use Prim.Native.Nat.{_+_}
 use Rattle.laws.proofs.Signs.{back}
@@ -9,15 +8,8 @@ use Rattle.ground.specs.declared.Tally.{Tally}
 use Rattle.load.proofs.steps.fill_session.Statement.{statement}
 use Rattle.load.proofs.steps.fill_session.Tie as tie
 
-sheet-tally-requires : tie.Need-sheet-tally-requires
-sheet-tally-requires c κs = search needs
-
 merge-requires : tie.Need-merge-requires
-merge-requires c κs =
-    let f = c .before .before .pre in (
-      rw (c .sheet-tally .ensures) (omega (arith, f .ready .filled-most, f .ready .posts-most)),
-      omega (arith, f .count, f .read-most, f .posts-most),
-    )
+merge-requires c κs = search needs
 
 read-on-requires : tie.Need-read-on-requires
 read-on-requires c κs = search needs
@@ -33,7 +25,11 @@ returns c =
     let r = c .before .before .before in
     let m = r .before in
     let a = m .before .before .before .args in
-    let w = m .merge .ensures ∙ ap (λ t. merged t (a .u)) (m .before .sheet-tally .ensures) in
+    let told = m .before .struct-told .given in
+    let w =
+    m .merge .ensures
+    ∙ (λ j. merged (record { filled = a .s .filled; low = back (a .s .low) (told .1 .1 .1 .1 .1 .0 .1) j; high = back (a .s .high) (told .1 .1 .1 .1 .1 .1 .0 .1) j }) (a .u))
+    in
     λ j.
     record {
       header = a .s .header;
@@ -41,8 +37,8 @@ returns c =
       closed = a .s .closed;
       posts = a .s .posts + a .n;
       filled = w j .filled;
-      low = (back (m .merge .result .low) (c .struct-told .given .1 .0 .1) ∙ ap (λ (t : Tally). t .low) w) j;
-      high = (back (m .merge .result .high) (c .struct-told .given .1 .1 .0 .1) ∙ ap (λ (t : Tally). t .high) w) j;
+      low = (back (m .merge .result .low) (c .struct-told2 .given .1 .0 .1) ∙ ap (λ (t : Tally). t .low) w) j;
+      high = (back (m .merge .result .high) (c .struct-told2 .given .1 .1 .0 .1) ∙ ap (λ (t : Tally). t .high) w) j;
       column = a .column;
       finished = a .s .finished;
       profile = r .read-on .ensures j;
@@ -51,4 +47,4 @@ returns c =
 pub fill-session-spec : {M : Type 1} → statement M
 fill-session-spec =
     tie.close
-    (tie.spec sheet-tally-requires merge-requires read-on-requires add-t10 add-t11 returns)
+    (tie.spec merge-requires read-on-requires add-t10 add-t11 returns)

@@ -19,22 +19,22 @@ use Rattle.send.proofs.BlockPlaces.{back-is, back-fits}
 use Rattle.send.proofs.one_block.write_block_zero.Statement.{statement}
 use Rattle.send.proofs.one_block.write_block_zero.Tie as tie
 
-columns-of-requires : tie.Need-columns-of-requires
-columns-of-requires c κs = c .before .before .pre .sheet .obeys
+columns-requires : tie.Need-columns-requires
+columns-requires c κs = tt
 
-rows-of-requires : tie.Need-rows-of-requires
-rows-of-requires c κs = c .before .before .before .pre .sheet .obeys
+rows-requires : tie.Need-rows-requires
+rows-requires c κs = tt
 
-abbrev start : tie.After-rows-of → tie.Start
+abbrev start : tie.After-rows → tie.Start
 start c = c .before .before .before .before
 
-many : (c : tie.After-rows-of) → c .before .columns-of .result * c .rows-of .result ≡ cellsOf (start c .args .h)
-many c = ap₂ _*_ (c .before .columns-of .ensures) (c .rows-of .ensures)
+many : (c : tie.After-rows) → c .before .columns .result * c .rows .result ≡ cellsOf (start c .args .h)
+many c = ap₂ _*_ (c .before .columns .ensures) (c .rows .ensures)
 
 mul-cells : tie.Need-mul-cells
 mul-cells c =
     omega
-    (arith, cells-most (start c .args .h) (start c .pre .sheet .obeys) (c .before .columns-of .result) (c .rows-of .result) (c .before .columns-of .ensures) (c .rows-of .ensures))
+    (arith, cells-most (start c .args .h) (start c .pre .sheet .obeys) (c .before .columns .result) (c .rows .result) (c .before .columns .ensures) (c .rows .ensures))
 
 sub-extremes-of : tie.Need-sub-extremes-of
 sub-extremes-of c = search needs
@@ -65,10 +65,10 @@ z-most : (c : tie.After-extremes-of) → zOf (start-2 c .args .h) ≤ 100
 z-most c = z-range (start-2 c .args .h) (start-2 c .pre .sheet .obeys) .1
 
 lent : (c : tie.After-extremes-of)
-    → take (c .before .before .before .columns-of .result * c .before .before .rows-of .result - 0) (start-2 c .args .grid .now) ≡ cells c
+    → take (c .before .before .before .columns .result * c .before .before .rows .result - 0) (start-2 c .args .grid .now) ≡ cells c
 lent c =
     let r = c .before .before in
-    let n : r .before .columns-of .result * r .rows-of .result - 0 ≡ cellsOf (start r .args .h) = omega (arith, many r) in
+    let n : r .before .columns .result * r .rows .result - 0 ≡ cellsOf (start r .args .h) = omega (arith, many r) in
     ap (λ (k : ℕ). take k (start r .args .grid .now)) n
 
 least-is : (c : tie.After-extremes-of) → c .extremes-of .result .least ≡ leastStated (cells c)
@@ -89,7 +89,7 @@ returns c =
     let e = w .before .before .before .before in
     let s = start-2 e in
     let a = s .args in
-    let columns = e .before .before .before .columns-of in
+    let columns = e .before .before .before .columns in
     let low = least-fits (zOf (a .h)) (z-most e) (cells e) (all e) in
     let high = greatest-fits (zOf (a .h)) (z-most e) (cells e) (all e) in
     let most : columns .result ≤ 2048 = omega (arith, columns .ensures, columns-most (a .h) (s .pre .sheet .obeys)) in
@@ -102,8 +102,8 @@ pub write-block-zero-spec : {M : Type 1} → statement M
 write-block-zero-spec =
     tie.close
     (tie.spec
-    columns-of-requires
-    rows-of-requires
+    columns-requires
+    rows-requires
     mul-cells
     sub-extremes-of
     part-extremes-of-start

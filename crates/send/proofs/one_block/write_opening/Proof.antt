@@ -5,6 +5,7 @@ use mathlib.Core.Path.{_≡_, _∙_, ap}
 use Prim.Native.Nat.{_+_, _*_, _-_, min, _≤_}
 use lib.ListN.{length}
 use mathlib.Core.Bool.{true}
+use native.Mathlib.Nat.{le-add-right}
 use native.Mathlib.Numerals.{add-one}
 use Rattle.frame.specs.Frame.{rowsOf, zOf}
 use Rattle.ground.specs.Extremes.{leastStated, greatestStated}
@@ -13,7 +14,7 @@ use Rattle.written.specs.Cells.{cellsSent}
 use Rattle.written.specs.Blocks.{xSent, yOfRow}
 use Rattle.written.proofs.PlacesSent.{x-fits, y-fits, least-fits, greatest-fits}
 use Rattle.paint.proofs.Fitting.{first-whole}
-use Rattle.send.proofs.BlockCells.{row-below, from-most, posts-room, lent-room, column-most, posts-most, all-cells, z-range, profile-sends, lent-cells, lent-sends, lent-most, opening-block}
+use Rattle.send.proofs.BlockCells.{row-below, small-fits, bytes-fit, most-at, room-at, from-first, many-first, none-skipped, lent-room, lent-small, column-number, column-word, posts-word, column-most, posts-most, all-cells, z-range, profile-sends, lent-cells, lent-sends, lent-most, opening-block}
 use Rattle.send.proofs.BlockPlaces.{back-is, back-fits}
 use Rattle.send.proofs.one_block.write_opening.Statement.{statement}
 use Rattle.send.proofs.one_block.write_opening.Tie as tie
@@ -25,50 +26,51 @@ abbrev start : tie.After-cell-at → tie.Start
 start c = c .before .before
 
 add-end : tie.Need-add-end
-add-end c = omega (arith, from-most (start c .pre), c .cell-at .ensures)
+add-end c = small-fits (most-at (start c .pre) (c .cell-at .ensures))
 
 mul-extremes-of : tie.Need-mul-extremes-of
-mul-extremes-of c = omega (arith, from-most (start c .pre), c .cell-at .ensures)
+mul-extremes-of c = bytes-fit (c .cell-at .result) (start c .args .posts) (most-at (start c .pre) (c .cell-at .ensures))
 
 sub-extremes-of : tie.Need-sub-extremes-of
-sub-extremes-of c = search needs
+sub-extremes-of c = le-add-right (c .cell-at .result) (start c .args .posts)
 
 part-extremes-of-start : tie.Need-part-extremes-of-start
-part-extremes-of-start c = search needs
+part-extremes-of-start c = le-add-right (c .cell-at .result) (start c .args .posts)
 
 part-extremes-of-end : tie.Need-part-extremes-of-end
-part-extremes-of-end c = omega (arith, posts-room (start c .pre), c .cell-at .ensures)
+part-extremes-of-end c = room-at (start c .pre) (c .cell-at .ensures)
 
 extremes-of-requires : tie.Need-extremes-of-requires
-extremes-of-requires c κs = search needs
+extremes-of-requires c κs = tt
 
-no-more-requires : tie.Need-no-more-requires
-no-more-requires c κs = search needs
+fewer-of-requires : tie.Need-fewer-of-requires
+fewer-of-requires c κs = tt
 
 -- ---- the cells of the block
 
-abbrev cell : tie.After-no-more → tie.After-cell-at
+abbrev cell : tie.After-fewer-of → tie.After-cell-at
 cell c = c .before .before .before
 
-abbrev start-2 : tie.After-no-more → tie.Start
+abbrev start-2 : tie.After-fewer-of → tie.Start
 start-2 c = start (cell c)
 
-from-is : (c : tie.After-no-more)
+from-is : (c : tie.After-fewer-of)
     → cell c .cell-at .result ≡ start-2 c .args .column * rowsOf (start-2 c .args .h) + start-2 c .args .row + 0
-from-is c = omega (arith, cell c .cell-at .ensures)
+from-is c = from-first (start-2 c .pre) (cell c .cell-at .ensures)
 
-many-is : (c : tie.After-no-more) → c .no-more .result ≡ min 146 (start-2 c .args .posts - 0)
-many-is c = omega (arith, c .no-more .ensures)
+many-is : (c : tie.After-fewer-of) → c .fewer-of .result ≡ min 146 (start-2 c .args .posts - 0)
+many-is c = many-first (start-2 c .pre) (c .fewer-of .ensures)
 
-end-room : (c : tie.After-no-more) → cell c .cell-at .result + c .no-more .result ≤ length (start-2 c .args .grid .now)
+end-room : (c : tie.After-fewer-of) → cell c .cell-at .result + c .fewer-of .result ≤ length (start-2 c .args .grid .now)
 end-room c =
-    lent-room (start-2 c .pre) 0 146 (cell c .cell-at .result) (c .no-more .result) (from-is c) (many-is c) (omega arith)
+    lent-room (start-2 c .pre) 0 146 (cell c .cell-at .result) (c .fewer-of .result) (from-is c) (many-is c) (none-skipped (start-2 c .pre))
 
-end-most : (c : tie.After-no-more) → cell c .cell-at .result + c .no-more .result ≤ 4194304
-end-most c = omega (arith, from-most (start-2 c .pre), cell c .cell-at .ensures, c .no-more .ensures)
+end-most : (c : tie.After-fewer-of) → cell c .cell-at .result + c .fewer-of .result ≤ 4194304
+end-most c =
+    lent-small (start-2 c .pre) 0 146 (cell c .cell-at .result) (c .fewer-of .result) (from-is c) (many-is c) (none-skipped (start-2 c .pre))
 
 add-here : tie.Need-add-here
-add-here c = omega (arith, end-most c)
+add-here c = small-fits (end-most c)
 
 x-of-requires : tie.Need-x-of-requires
 x-of-requires c κs = let s = start-2 c in (s .pre .sheet .obeys, s .pre .inside)
@@ -77,50 +79,50 @@ y-of-requires : tie.Need-y-of-requires
 y-of-requires c κs = let s = start-2 (c .before) in (s .pre .sheet .obeys, row-below (s .pre))
 
 add-write-first : tie.Need-add-write-first
-add-write-first c = omega (arith, column-most (start-2 (c .before .before) .pre))
+add-write-first c = column-number (start-2 (c .before .before) .pre)
 
 cast-write-first : tie.Need-cast-write-first
-cast-write-first c = omega (arith, column-most (start-2 (c .before .before) .pre))
+cast-write-first c = column-word (start-2 (c .before .before) .pre)
 
 cast-write-first-2 : tie.Need-cast-write-first-2
-cast-write-first-2 c = omega (arith, posts-most (start-2 (c .before .before) .pre))
+cast-write-first-2 c = posts-word (start-2 (c .before .before) .pre)
 
 z-of-requires : tie.Need-z-of-requires
-z-of-requires c κs = search needs
+z-of-requires c κs = tt
 
-abbrev at-no-more : tie.After-z-of → tie.After-no-more
-at-no-more c = c .before .before .before
+abbrev at-fewer-of : tie.After-z-of → tie.After-fewer-of
+at-fewer-of c = c .before .before .before
 
 mul-write-first : tie.Need-mul-write-first
-mul-write-first c = omega (arith, end-most (at-no-more c))
+mul-write-first c = let n = at-fewer-of c in bytes-fit (cell n .cell-at .result) (n .fewer-of .result) (end-most n)
 
 sub-write-first : tie.Need-sub-write-first
-sub-write-first c = omega arith
+sub-write-first c = let n = at-fewer-of c in le-add-right (cell n .cell-at .result) (n .fewer-of .result)
 
 part-write-first-start : tie.Need-part-write-first-start
-part-write-first-start c = omega arith
+part-write-first-start c = let n = at-fewer-of c in le-add-right (cell n .cell-at .result) (n .fewer-of .result)
 
 part-write-first-end : tie.Need-part-write-first-end
-part-write-first-end c = omega (arith, end-room (at-no-more c))
+part-write-first-end c = end-room (at-fewer-of c)
 
 -- ---- the numbers of the head
 
 abbrev start-3 : tie.After-z-of → tie.Start
-start-3 c = start-2 (at-no-more c)
+start-3 c = start-2 (at-fewer-of c)
 
 least-is : (c : tie.After-z-of)
-    → at-no-more c .before .extremes-of .result .least
+    → at-fewer-of c .before .extremes-of .result .least
     ≡ leastStated (cellsSent (start-3 c .args .h) (start-3 c .args .grid .now) (start-3 c .args .column))
 least-is c =
-    let n = at-no-more c in
+    let n = at-fewer-of c in
     n .before .extremes-of .ensures .0
     ∙ ap leastStated (all-cells (start-3 c .pre) (cell n .cell-at .result) (cell n .cell-at .ensures))
 
 greatest-is : (c : tie.After-z-of)
-    → at-no-more c .before .extremes-of .result .greatest
+    → at-fewer-of c .before .extremes-of .result .greatest
     ≡ greatestStated (cellsSent (start-3 c .args .h) (start-3 c .args .grid .now) (start-3 c .args .column))
 greatest-is c =
-    let n = at-no-more c in
+    let n = at-fewer-of c in
     n .before .extremes-of .ensures .1
     ∙ ap greatestStated (all-cells (start-3 c .pre) (cell n .cell-at .result) (cell n .cell-at .ensures))
 
@@ -146,7 +148,7 @@ numbers c =
     }
 
 write-first-requires : tie.Need-write-first-requires
-write-first-requires c κs = search needs
+write-first-requires c κs = tt
 
 same-length : tie.Need-same-length
 same-length c = search needs
@@ -155,10 +157,10 @@ returns : tie.Need-returns
 returns c =
     let w = c .before .before in
     let z = w .before .before .before .before .before in
-    let n = at-no-more z in
+    let n = at-fewer-of z in
     let s = start-3 z in
     let r = cell n .cell-at .result in
-    let m = n .no-more .result in
+    let m = n .fewer-of .result in
     opening-block (s .pre)
     (first-whole (w .write-first .ensures)
     (record {
@@ -188,7 +190,7 @@ write-opening-spec =
     part-extremes-of-start
     part-extremes-of-end
     extremes-of-requires
-    no-more-requires
+    fewer-of-requires
     add-here
     x-of-requires
     y-of-requires

@@ -23,13 +23,13 @@ Inv-loop h grid column at out₀ found blocks from₀ k₀ out from k =
 abbrev μ-loop : tie.MeasureT-loop
 μ-loop h grid column at out₀ found blocks from₀ k₀ out from k = blocks - k
 
-rows-of-requires : tie.Need-rows-of-requires Inv-loop μ-loop
-rows-of-requires c κs = c .before .pre .sheet .obeys
+rows-requires : tie.Need-rows-requires Inv-loop μ-loop
+rows-requires c κs = tt
 
 column-at-requires : tie.Need-column-at-requires Inv-loop μ-loop
 column-at-requires c κs =
     let s = c .before .before in
-    subst (λ (r : ℕ). s .args .column * r + r ≤ length (s .args .grid .now)) (sym (c .rows-of .ensures))
+    subst (λ (r : ℕ). s .args .column * r + r ≤ length (s .args .grid .now)) (sym (c .rows .ensures))
     (column-room (sizes (s .pre .sheet)) (s .args .column) (s .pre .inside))
 
 -- what the column was found to be is what is sent of it
@@ -39,7 +39,7 @@ row-is : (c : tie.After-column-at Inv-loop μ-loop)
 row-is c =
     let s = c .before .before .before in
     c .column-at .ensures .0
-    ∙ ap (λ (r : ℕ). firstRow (columnAt r (s .args .grid .now) (s .args .column))) (c .before .rows-of .ensures)
+    ∙ ap (λ (r : ℕ). firstRow (columnAt r (s .args .grid .now) (s .args .column))) (c .before .rows .ensures)
 
 posts-are : (c : tie.After-column-at Inv-loop μ-loop)
     → c .column-at .result .posts
@@ -47,7 +47,7 @@ posts-are : (c : tie.After-column-at Inv-loop μ-loop)
 posts-are c =
     let s = c .before .before .before in
     c .column-at .ensures .1
-    ∙ ap (λ (r : ℕ). length (profileCells (columnAt r (s .args .grid .now) (s .args .column)))) (c .before .rows-of .ensures)
+    ∙ ap (λ (r : ℕ). length (profileCells (columnAt r (s .args .grid .now) (s .args .column)))) (c .before .rows .ensures)
 
 blocks-for-requires : tie.Need-blocks-for-requires Inv-loop μ-loop
 blocks-for-requires c κs = search needs
@@ -150,7 +150,7 @@ write-column-spec =
     (tie.spec
     Inv-loop
     μ-loop
-    rows-of-requires
+    rows-requires
     column-at-requires
     blocks-for-requires
     loop-holds

@@ -21,8 +21,8 @@ abbrev μ-loop : tie.MeasureT-loop
 μ-loop h grid out₀ columns at₀ c₀ out at c = columns - c
 
 -- src/whole_sheet.rt:40:9
-columns-of-requires : tie.Need-columns-of-requires Inv-loop μ-loop
-columns-of-requires c κs = c .before .pre .sheet .obeys
+columns-requires : tie.Need-columns-requires Inv-loop μ-loop
+columns-requires c κs = tt
 
 -- src/whole_sheet.rt:43:5
 loop-holds : tie.Need-loop-holds Inv-loop μ-loop
@@ -39,7 +39,7 @@ write-column-requires c κs =
     let h = s .args .h in
     let grid = s .args .grid .now in
     let n = l .loop .c in
-    let inside : n < columnsOf h = omega (arith, t .loop-test .taken, l .before .columns-of .ensures) in
+    let inside : n < columnsOf h = omega (arith, t .loop-test .taken, l .before .columns .ensures) in
     record {
       sheet = s .pre .sheet;
       inside = inside;
@@ -50,7 +50,7 @@ write-column-requires c κs =
 
 -- src/whole_sheet.rt:45:9
 add-c : tie.Need-add-c Inv-loop μ-loop
-add-c c = omega (arith, c .before .before .before .before .loop-test .taken, c .before .before .before .before .before .before .columns-of .ok)
+add-c c = omega (arith, c .before .before .before .before .loop-test .taken, c .before .before .before .before .before .before .columns .ok)
 
 -- src/whole_sheet.rt:43:5
 loop-less : tie.Need-loop-less Inv-loop μ-loop
@@ -82,8 +82,8 @@ returns : tie.Need-returns Inv-loop μ-loop
 returns c =
     let l = c .before in
     let s = l .before .before .before in
-    let e : l .loop .c ≡ l .before .columns-of .result = omega arith in
-    let n = e ∙ l .before .columns-of .ensures in (
+    let e : l .loop .c ≡ l .before .columns .result = omega arith in
+    let n = e ∙ l .before .columns .ensures in (
       named (ap (columnsText (s .args .h) (s .args .grid .now)) n) (l .loop .inv .1 .1),
       all-there (s .args .h) (s .args .grid .now) (l .loop .c) (l .loop .at) (length (s .args .out .now)) (l .loop .inv .1 .0) n (s .pre .room),
     )
@@ -94,7 +94,7 @@ write-columns-spec =
     (tie.spec
     Inv-loop
     μ-loop
-    columns-of-requires
+    columns-requires
     loop-holds
     write-column-requires
     add-c
