@@ -10,7 +10,7 @@ use borrow.Author.Tests.{ne-eqb, eqb-true, eqb-false, ltb-true, ltb-false, eq-eq
 use lib.Dec.{eqb, ltb}
 use Rattle.laws.proofs.Tests.{clash, by-test}
 use Rattle.frame.specs.declared.Header.{Header}
-use Rattle.frame.specs.Frame.{columnsOf, rowsOf, zOf, cellsOf}
+use Rattle.frame.specs.Frame.{columnsOf, rowsOf, zOf}
 use Rattle.heading.specs.Heading.{isRealNumber}
 use Rattle.heading.proofs.HeadingFacts.{header-facts}
 use Rattle.sheet.specs.RecordA.{recordA}

@@ -1,6 +1,6 @@
 -- What a header that obeys record A is known by: `header-facts`.
 use mathlib.Core.Path.{_≡_, refl}
-use Prim.Native.Nat.{ℕ, _%_, _≤_, _/_, _^_, _*_}
+use Prim.Native.Nat.{ℕ, _%_, _≤_, _/_, _^_}
 use mathlib.Core.Bool.{true, Bool, false, cond}
 use borrow.Author.Tests.{leb-true, eqb-true}
 use lib.Dec.{leb, eqb}

@@ -2,7 +2,7 @@
 use mathlib.Core.List.{List, _∷_, _++_, []}
 use Prim.Native.Nat.{ℕ, _/_, _%_, _^_, _-_}
 use lib.IntN.{ℤ, natAbs, pos}
-use mathlib.Core.Bool.{cond, Bool, false}
+use mathlib.Core.Bool.{cond}
 use lib.Dec.{eqb, leb}
 use lib.ListN.{length, drop}
 use mathlib.Core.Path.{_≡_}

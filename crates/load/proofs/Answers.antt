@@ -1,14 +1,14 @@
 -- A delivery judged, and what was judged done: one law for each way through the code.
 use mathlib.Core.Bool.{Bool, true, false}
-use mathlib.Core.List.{List, _++_}
+use mathlib.Core.List.{List}
 use mathlib.Core.Path.{_≡_, refl, sym, _∙_, ap, subst⁻¹}
 use Prim.Native.Nat.{ℕ, _+_, _≤_}
 use native.Mathlib.Omega.{arith}
 use borrow.Author.Tests.{ltb-false, le-leb}
 use lib.IntN.{ℤ}
-use lib.ListN.{length, take}
+use lib.ListN.{length}
 use Rattle.laws.proofs.Tests.{and-both}
-use Rattle.frame.specs.Frame.{cellsOf, columnsOf, rowsOf}
+use Rattle.frame.specs.Frame.{cellsOf}
 use Rattle.frame.specs.declared.Header.{Header}
 use Rattle.frame.proofs.Sizes.{whole-sizes}
 use Rattle.sheet.specs.RecordA.{recordA}
@@ -21,7 +21,7 @@ use Rattle.posts.specs.Scan.{voided, placed}
 use Rattle.delivery.specs.Deliver.{Verdict, Room, lend, tooShort, again, wrong, fills, beginning, lentBy, answerOf, verdictOf, deliverOf, lentAfter}
 use Rattle.delivery.specs.declared.Answer.the-variants.{Taken, Held as Answer·Held, Refused as Answer·Refused}
 use Rattle.delivery.specs.declared.Delivered.{Delivered}
-use Rattle.load.specs.Steps.{Stepped, room, stepVerdict, firstJudged, laterJudged, judgedVerdict, Judging, Doable, Does}
+use Rattle.load.specs.Steps.{Stepped, room, firstJudged, laterJudged, judgedVerdict, Judging, Doable, Does}
 use Rattle.load.specs.declared.steps.Judged.{Judged}
 use Rattle.load.specs.declared.steps.Judged.the-variants.{Held, Refused, Begins, Fills}
 use Rattle.load.specs.declared.steps.Step.{Step}

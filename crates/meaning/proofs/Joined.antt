@@ -5,8 +5,6 @@ use Prim.Native.Nat.{ℕ, _/_, suc, _<_, _*_, _≤_, zero, _+_, _-_, min}
 use lib.IntN.{ℤ}
 use mathlib.Core.Path.{_≡_, _∙_, ap, refl, sym, ap₂}
 use native.Mathlib.Omega.{arith}
-use lib.ListN.{length, take, drop, length-append, length-drop}
-use lib.Seq.{take-append-le, drop-append-le, take-all, drop-at}
 use borrow.Author.Tests.{ltb-false, lt-ltb, le-ltb, ltb-true}
 use lib.Dec.{ltb}
 use mathlib.Core.Bool.{true, false}

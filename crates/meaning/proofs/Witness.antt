@@ -3,7 +3,6 @@
 use mathlib.Core.List.{[], _∷_, List}
 use lib.IntN.{pos, ℤ}
 use mathlib.Core.Path.{_≡_, refl, _∙_, ap, ap₂}
-use lib.ListN.{length}
 use Rattle.laws.specs.Digits.{places, short}
 use Rattle.number.specs.Integer.{integer}
 use Rattle.number.specs.Real.{real, billionths}

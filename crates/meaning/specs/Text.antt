@@ -1,7 +1,6 @@
 -- The joined text of a sheet: blocks, profiles, posts, and the cell that each post stands for. Nothing here knows a session or a step.
 use mathlib.Core.List.{List, map}
 use Prim.Native.Nat.{ℕ, _*_, _/_, zero, suc, _+_, _-_, min, _%_}
-use lib.ListN.{take, drop, length}
 use mathlib.Core.Bool.{cond, Bool}
 use lib.Dec.{ltb, leb}
 use lib.IntN.{ℤ}

@@ -4,12 +4,10 @@ use Prim.Native.Nat.{ℕ, _+_}
 use mathlib.Core.Bool.{Bool, true, false, cond, not}
 use lib.IntN.{ℤ, pos, negsuc}
 use lib.Dec.{eqb}
-use lib.ListN.{drop, length}
+use lib.ListN.{length}
 use Rattle.laws.specs.Sign.{isZero, _and_}
-use Rattle.laws.specs.Texts.{every}
 use Rattle.number.specs.Integer.{integer, refused}
 use Rattle.number.specs.declared.Reading.{Reading}
-use Rattle.number.specs.Bytes.{isBlank}
 use Rattle.field.specs.Field.{restFault, stretch, limits, ranged, Judged, at, wholeAt, fault, firstOf}
 use Rattle.field.specs.declared.Fault.{Fault}
 

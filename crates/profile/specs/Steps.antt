@@ -1,9 +1,7 @@
 -- How the code judges a block: its fields from the last to the first, each before those behind it. No paper's sentence is
 -- stated here; the public promises cite `recordB` and `recordC` alone.
 use mathlib.Core.List.{List}
-use mathlib.Core.Path.{_≡_}
-use Prim.Native.Nat.{ℕ, _+_, _≤_}
-use lib.ListN.{length}
+use Prim.Native.Nat.{ℕ, _+_}
 use Rattle.laws.specs.Sign.{notNegative}
 use Rattle.number.specs.Real.{real}
 use Rattle.number.specs.declared.Reading.{Reading}

@@ -11,7 +11,7 @@ ghost use mathlib.Core.Path.{_≡_};
 ghost use Prim.Native.Nat.{_+_};
 ghost use lib.Dec.{leb};
 ghost use lib.IntN.{natAbs};
-ghost use Rattle.session.specs.Session.{busy, profileObeys, openRead, openBlocks, extremesObey, closedObeys, columnObeys, postsObey, finishObeys, takenObeys, begunObeys};
+ghost use Rattle.session.specs.Session.{busy, profileObeys, openRead, extremesObey, closedObeys, columnObeys, postsObey, finishObeys, takenObeys, begunObeys};
 ghost use Rattle.session.specs.Steps.{readObeys, placesObey, countsObey, Bounded};
 
 fn is_busy(s: Session) -> bool

@@ -3,7 +3,6 @@ use borrow.Author.Needs.{needs}
 use mathlib.Core.Path.{_≡_, _∙_, sym, ap₂}
 use lib.ListN.{length}
 use native.Mathlib.Omega.{arith}
-use Prim.Native.Nat.{_-_}
 use Rattle.written.specs.Cells.{upToLast}
 use Rattle.columns.proofs.Columns.{void-column, row-before, first-row, posts-left}
 use Rattle.columns.proofs.scan_column.Statement.{statement}

@@ -1,5 +1,4 @@
 -- What was judged, done; Answers has what each comes to.
-use mathlib.Core.Path.{refl, sym, _∙_, ap}
 use Rattle.load.proofs.Answers.{does-held, does-refused, does-begin, does-fill}
 use borrow.Author.Needs.{needs}
 use Rattle.load.proofs.apply.Statement.{statement}

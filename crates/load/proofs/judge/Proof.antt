@@ -1,8 +1,6 @@
 -- The first tests, then block 0 or a later block; Answers has what each comes to.
 use mathlib.Core.Path.{sym, _∙_, ap}
-use native.Mathlib.Omega.{arith}
-use lib.ListN.{length}
-use Rattle.delivery.specs.Deliver.{verdictOf, later}
+use Rattle.delivery.specs.Deliver.{verdictOf}
 use Rattle.load.specs.Steps.{room}
 use Rattle.load.proofs.Answers.{judged-refused, judged-held, judged-first, judged-later}
 use Rattle.load.proofs.Judged.{same-step}

@@ -1,11 +1,6 @@
 -- Record A's verdict, then whether enough is lent.
-use mathlib.Core.Bool.{Bool, true, false, not}
-use mathlib.Core.Path.{_≡_, sym, _∙_, ap}
-use Prim.Native.Nat.{ℕ}
-use borrow.Author.Tests.{lt-ltb, le-ltb, leb-true, leb-false}
-use lib.Dec.{leb, ltb}
-use Rattle.frame.specs.Frame.{cellsOf}
-use Rattle.frame.specs.declared.Header.{Header}
+use mathlib.Core.Bool.{true, false}
+use mathlib.Core.Path.{sym, _∙_, ap}
 use Rattle.load.specs.Steps.{firstJudged, room}
 use Rattle.load.proofs.Gates.{enough}
 use borrow.Author.Needs.{needs}

@@ -4,7 +4,7 @@ use Prim.Native.Nat.{_≤_, _<_}
 use borrow.Author.Needs.{needs}
 use borrow.Author.Tests.{eq-eqb, ne-eqb}
 use lib.IntN.{pos, natAbs, _*ℤ_}
-use mir.Facts.{toZ-ofZ, sfits-lit}
+use mir.Facts.{toZ-ofZ}
 use Rattle.laws.specs.Sign.{sameZ}
 use Rattle.rules.proofs.Sums.{scaled-fits, stated-most, out-of-reach}
 use Rattle.rules.proofs.agrees.Statement.{statement}

@@ -1,9 +1,9 @@
 -- The value of the row, nothing where the table or the list of values does not reach.
 use borrow.Author.Needs.{needs}
 use mathlib.Core.Path.{sym, _∙_, ap}
-use Prim.Native.Nat.{ℕ, _≤_}
+use Prim.Native.Nat.{ℕ}
 use lib.IntN.{pos}
-use lib.ListN.{getD, length, List·getD-eq-default}
+use lib.ListN.{getD, List·getD-eq-default}
 use mir.Facts.{toZ-ofZ}
 use mir.Syntax.{w64}
 use Rattle.sheet.proofs.value_of.Statement.{statement}

@@ -1,6 +1,6 @@
 -- A first block: scanned, then placed and filled; Placed has why.
 use borrow.Author.Needs.{needs}
-use mathlib.Core.Path.{subst₂, _≡_, refl, subst}
+use mathlib.Core.Path.{_≡_, refl, subst}
 use native.Mathlib.Omega.{arith}
 use Rattle.laws.proofs.Signs.{back}
 use Rattle.frame.specs.Frame.{zOf}

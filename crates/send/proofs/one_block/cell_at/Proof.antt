@@ -1,5 +1,4 @@
 -- A cell of the sheet: BlockCells keeps columns times rows small.
-use borrow.Author.Needs.{needs}
 use Prim.Native.Nat.{_*_, _≤_, ℕ, _+_}
 use native.Mathlib.Nat.{mul-le-mul}
 use native.Mathlib.Omega.{arith}
