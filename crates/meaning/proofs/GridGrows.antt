@@ -1,5 +1,5 @@
 -- The grid after one block more: its heights in its posts' cells, every other cell as it was. That earlier posts keep their cells carries it.
-use mathlib.Core.List.{List, map, _++_}
+use mathlib.Core.List.{List, map, _++_, _∷_}
 use mathlib.Core.Path.{_≡_, _∙_, refl, sym, ap₂, ap}
 use Prim.Native.Nat.{ℕ, zero, suc, _+_, _*_, _-_, _/_, _%_, _≤_, _<_, min}
 use lib.ListN.{length, length-map, replicate, drop, getD}

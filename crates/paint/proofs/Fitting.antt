@@ -1,7 +1,7 @@
 -- Where every number fits its field, a painted block is the text of its fields: nothing is left of what it held.
 use mathlib.Core.Bool.{Bool, true}
 use mathlib.Core.List.{List, map, [], _∷_, _++_, append-assoc, append-nil}
-use Prim.Native.Nat.{ℕ, _-_, _≤_}
+use Prim.Native.Nat.{ℕ, _+_, _-_, _≤_}
 use mathlib.Core.Path.{_≡_, refl, _∙_, ap₂, sym, ap}
 use lib.ListN.{length, length-append, drop, replicate, length-drop, drop-of-length-le}
 use lib.Seq.{drop-drop, take-at}

@@ -2,13 +2,13 @@
 -- One law, cited for each.
 use mathlib.Core.List.{List, [], _∷_}
 use mathlib.Core.Path.{_≡_}
-use Prim.Native.Nat.{ℕ, _+_}
+use Prim.Native.Nat.{ℕ, _+_, min}
 use lib.IntN.{ℤ, natAbs}
-use mathlib.Core.Bool.{Bool, cond}
+use mathlib.Core.Bool.{Bool, true, cond}
 use lib.ListN.{length, take, drop}
 use lib.Dec.{leb}
 use Rattle.laws.specs.Digits.{short}
-use Rattle.laws.specs.Sign.{notNegative, lesser, greater}
+use Rattle.laws.specs.Sign.{notNegative, lesser, greater, sameZ, isZero, implies, _and_}
 use Rattle.laws.specs.Texts.{every}
 use Rattle.laws.proofs.Answers.{one-answer}
 use Rattle.numerals.specs.Numerals.{count, minus, fixed, numeral}
@@ -20,26 +20,31 @@ use Rattle.number.specs.Real.{real}
 use Rattle.number.specs.Tens.{tenTo}
 use Rattle.number.specs.Bytes.{isBlank}
 use Rattle.label.specs.Label.{originOf, nameLength}
-use Rattle.lattice.specs.Lattice.{latticeOf, placeOf}
+use Rattle.lattice.specs.Lattice.{latticeOf, placeOf, placeNumber}
 use Rattle.lattice.specs.declared.Lattice.{Lattice}
 use Rattle.lattice.specs.declared.Place.{Place}
-use Rattle.field.specs.Field.{limits, inRange, ranged}
+use Rattle.field.specs.Field.{limits, inRange, ranged, isWord, fault, faultOr, stretch, wholeAt}
 use Rattle.field.specs.declared.Limits.{Limits}
 use Rattle.field.specs.declared.Fault.{Fault}
-use Rattle.frame.specs.Frame.{west, east, south, north, wholeFault}
+use Rattle.frame.specs.Frame.{west, east, south, north, wholeFault, columnsOf, rowsOf, cellsOf, zOf, columnPlaceOf, rowPlaceOf}
 use Rattle.frame.specs.declared.Header.{Header}
-use Rattle.heading.specs.Heading.{zoneLimits, groundLimits, heightLimits, headerOf}
+use Rattle.heading.specs.Heading.{limitsOf, headerOf, isRealNumber, headerObeys, zeroHeader}
 use Rattle.sheet.specs.RecordA.{recordA, checkedKind, checkedByte}
 use Rattle.sheet.specs.declared.Checked.{Checked}
 use Rattle.profile.specs.RecordB.{recordB}
 use Rattle.profile.specs.declared.record_b.Headed.{Headed}
 use Rattle.profile.specs.RecordC.{recordC}
-use Rattle.session.specs.Session.{fresh, sound, complete}
+use Rattle.session.specs.Session.{fresh, begun, sound, complete, openBlocks}
 use Rattle.session.specs.declared.Session.{Session}
+use Rattle.session.specs.declared.Profile.{Profile}
+use Rattle.profile.specs.declared.record_b.Head.{Head}
+use Rattle.posts.specs.Scan.{scanOf, scratchAfter, voided, placed}
+use Rattle.posts.specs.declared.Scan.{Scan}
+use Rattle.delivery.specs.declared.Refusal.{Refusal}
 use Rattle.ground.specs.Posts.{blocksFor}
 use Rattle.ground.specs.Extremes.{leastStated, greatestStated}
 use Rattle.spell.specs.Spell.{integerFits, integerText, realFits, realText}
-use Rattle.delivery.specs.Deliver.{lend, deliverOf, lentAfter}
+use Rattle.delivery.specs.Deliver.{lend, deliverOf, lentAfter, columnFits, rowFits, columnFrom, openedAt, closeFault}
 use Rattle.delivery.specs.declared.Delivered.{Delivered}
 use Rattle.lines.specs.Lines.{reportText, used, written, refusedText, unfinishedText, endText}
 use Rattle.listing.specs.Turns.{turn, stepOf, cellsOf, lastText}
@@ -144,15 +149,6 @@ leaves-room at many count = one-answer
 pub limits-of : (least greatest step kind : ℕ) {a b : Limits} → a ≡ limits least greatest step kind → b ≡ limits least greatest step kind → a ≡ b
 limits-of least greatest step kind = one-answer
 
-pub zone-limits : (system : ℕ) {a b : Limits} → a ≡ zoneLimits system → b ≡ zoneLimits system → a ≡ b
-zone-limits system = one-answer
-
-pub ground-limits : (system : ℕ) {a b : Limits} → a ≡ groundLimits system → b ≡ groundLimits system → a ≡ b
-ground-limits system = one-answer
-
-pub height-limits : (vertical : ℕ) {a b : Limits} → a ≡ heightLimits vertical → b ≡ heightLimits vertical → a ≡ b
-height-limits vertical = one-answer
-
 pub not-negative : (z : ℤ) {a b : ℕ} → a ≡ notNegative z → b ≡ notNegative z → a ≡ b
 not-negative z = one-answer
 
@@ -200,6 +196,126 @@ deliver s number block grid = one-answer
 
 pub deliver-grid : (s : Session) (number : ℕ) (block : List ℕ) (grid : List ℤ) {a b : List ℤ} → a ≡ lentAfter s number block (lend grid) .grid → b ≡ lentAfter s number block (lend grid) .grid → a ≡ b
 deliver-grid s number block grid = one-answer
+
+pub same : (x y : ℤ) {a b : Bool} → a ≡ sameZ x y → b ≡ sameZ x y → a ≡ b
+same x y = one-answer
+
+pub is-zero : (z : ℤ) {a b : Bool} → a ≡ isZero z → b ≡ isZero z → a ≡ b
+is-zero z = one-answer
+
+pub fewer-of : (x y : ℕ) {a b : ℕ} → a ≡ min x y → b ≡ min x y → a ≡ b
+fewer-of x y = one-answer
+
+pub both : (x y : Bool) {a b : Bool} → a ≡ (x and y) → b ≡ (x and y) → a ≡ b
+both x y = one-answer
+
+pub all3 : (x y z : Bool) {a b : Bool} → a ≡ (x and y and z) → b ≡ (x and y and z) → a ≡ b
+all3 x y z = one-answer
+
+pub all4 : (x y z w : Bool) {a b : Bool} → a ≡ (x and y and z and w) → b ≡ (x and y and z and w) → a ≡ b
+all4 x y z w = one-answer
+
+pub either : (x y : Bool) {a b : Bool} → a ≡ cond x true y → b ≡ cond x true y → a ≡ b
+either x y = one-answer
+
+pub implied : (x y : Bool) {a b : Bool} → a ≡ implies x y → b ≡ implies x y → a ≡ b
+implied x y = one-answer
+
+pub place-number : (p : Place) {a b : ℕ} → a ≡ placeNumber p → b ≡ placeNumber p → a ≡ b
+place-number p = one-answer
+
+pub all-words : (s : List ℕ) {a b : Bool} → a ≡ every isWord s → b ≡ every isWord s → a ≡ b
+all-words s = one-answer
+
+pub no-fault : {a b : Fault} → a ≡ fault 0 0 → b ≡ fault 0 0 → a ≡ b
+no-fault = one-answer
+
+pub fault-of : (kind byte : ℕ) {a b : Fault} → a ≡ fault kind byte → b ≡ fault kind byte → a ≡ b
+fault-of kind byte = one-answer
+
+pub stretch-of : (block : List ℕ) (first width : ℕ) {a b : List ℕ} → a ≡ stretch first width block → b ≡ stretch first width block → a ≡ b
+stretch-of block first width = one-answer
+
+pub fault-or : (r : Reading) (byte : ℕ) (rest : Fault) {a b : Fault} → a ≡ faultOr r byte rest → b ≡ faultOr r byte rest → a ≡ b
+fault-or r byte rest = one-answer
+
+pub integer-at : (block : List ℕ) (byte : ℕ) {a b : Reading} → a ≡ integer (stretch byte 6 block) → b ≡ integer (stretch byte 6 block) → a ≡ b
+integer-at block byte = one-answer
+
+pub whole-at : (block : List ℕ) (byte : ℕ) {a b : ℕ} → a ≡ wholeAt byte block → b ≡ wholeAt byte block → a ≡ b
+whole-at block byte = one-answer
+
+pub real-at : (block : List ℕ) (byte : ℕ) {a b : Reading} → a ≡ real (stretch byte 24 block) → b ≡ real (stretch byte 24 block) → a ≡ b
+real-at block byte = one-answer
+
+pub judge : (l : Limits) (r : Reading) (byte : ℕ) (rest : Fault) {a b : Fault} → a ≡ faultOr (ranged l r) byte rest → b ≡ faultOr (ranged l r) byte rest → a ≡ b
+judge l r byte rest = one-answer
+
+pub judge-at : (l : Limits) (block : List ℕ) (byte : ℕ) (rest : Fault) {a b : Fault} → a ≡ faultOr (ranged l (integer (stretch byte 6 block))) byte rest → b ≡ faultOr (ranged l (integer (stretch byte 6 block))) byte rest → a ≡ b
+judge-at l block byte rest = one-answer
+
+pub columns : (h : Header) {a b : ℕ} → a ≡ columnsOf h → b ≡ columnsOf h → a ≡ b
+columns h = one-answer
+
+pub rows : (h : Header) {a b : ℕ} → a ≡ rowsOf h → b ≡ rowsOf h → a ≡ b
+rows h = one-answer
+
+pub has-room : (h : Header) (cells : ℕ) {a b : Bool} → a ≡ leb (cellsOf h) cells → b ≡ leb (cellsOf h) cells → a ≡ b
+has-room h cells = one-answer
+
+pub z-of : (h : Header) {a b : ℕ} → a ≡ zOf h → b ≡ zOf h → a ≡ b
+z-of h = one-answer
+
+pub column-of : (h : Header) (x : ℤ) {a b : Place} → a ≡ columnPlaceOf h x → b ≡ columnPlaceOf h x → a ≡ b
+column-of h x = one-answer
+
+pub row-of : (h : Header) (y : ℤ) {a b : Place} → a ≡ rowPlaceOf h y → b ≡ rowPlaceOf h y → a ≡ b
+row-of h y = one-answer
+
+pub named-limits : (name system vertical : ℕ) {a b : Limits} → a ≡ limitsOf name system vertical → b ≡ limitsOf name system vertical → a ≡ b
+named-limits name system vertical = one-answer
+
+pub is-real-number : (z : ℤ) {a b : Bool} → a ≡ isRealNumber z → b ≡ isRealNumber z → a ≡ b
+is-real-number z = one-answer
+
+pub header-obeys : (h : Header) {a b : Bool} → a ≡ headerObeys h → b ≡ headerObeys h → a ≡ b
+header-obeys h = one-answer
+
+pub zero-header : (h : Header) {a b : Bool} → a ≡ zeroHeader h → b ≡ zeroHeader h → a ≡ b
+zero-header h = one-answer
+
+pub session-begun : (h : Header) {a b : Session} → a ≡ begun h → b ≡ begun h → a ≡ b
+session-begun h = one-answer
+
+pub open-blocks : (s : Session) {a b : ℕ} → a ≡ openBlocks s → b ≡ openBlocks s → a ≡ b
+open-blocks s = one-answer
+
+pub scan-block : (block : List ℕ) (byte n z : ℕ) (datum : ℤ) (scratch : List ℤ) {a b : Scan} → a ≡ scanOf block byte n z datum (length scratch) → b ≡ scanOf block byte n z datum (length scratch) → a ≡ b
+scan-block block byte n z datum scratch = one-answer
+
+pub scan-block-scratch : (block : List ℕ) (byte n z : ℕ) (datum : ℤ) (scratch : List ℤ) {a b : List ℤ} → a ≡ scratchAfter block byte n z datum scratch → b ≡ scratchAfter block byte n z datum scratch → a ≡ b
+scan-block-scratch block byte n z datum scratch = one-answer
+
+pub void-cells : (n : ℕ) (grid : List ℤ) {a b : List ℤ} → a ≡ voided n grid → b ≡ voided n grid → a ≡ b
+void-cells n grid = one-answer
+
+pub place : (at n : ℕ) (values grid : List ℤ) {a b : List ℤ} → a ≡ placed at n values grid → b ≡ placed at n values grid → a ≡ b
+place at n values grid = one-answer
+
+pub column-fits : (s : Session) (p : Place) {a b : Bool} → a ≡ columnFits s p → b ≡ columnFits s p → a ≡ b
+column-fits s p = one-answer
+
+pub row-fits : (s : Session) (posts : ℕ) (p : Place) {a b : Bool} → a ≡ rowFits s posts p → b ≡ rowFits s posts p → a ≡ b
+row-fits s posts p = one-answer
+
+pub first-column : (s : Session) (p : Place) {a b : ℕ} → a ≡ columnFrom s p → b ≡ columnFrom s p → a ≡ b
+first-column s p = one-answer
+
+pub open-profile : (head : Head) (p : Place) {a b : Profile} → a ≡ openedAt head p → b ≡ openedAt head p → a ≡ b
+open-profile head p = one-answer
+
+pub close-fault : (block : ℕ) (s : Session) {a b : Refusal} → a ≡ closeFault block s → b ≡ closeFault block s → a ≡ b
+close-fault block s = one-answer
 
 pub dem-integer-kind : (field : List ℕ) {a b : ℕ} → a ≡ integer field .kind → b ≡ integer field .kind → a ≡ b
 dem-integer-kind field = one-answer

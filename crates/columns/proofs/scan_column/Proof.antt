@@ -1,4 +1,5 @@
 -- Where no cell is filled there is one post at row 0, else the posts lie between the two ends.
+use Prim.Native.Nat.{_-_}
 use borrow.Author.Needs.{needs}
 use mathlib.Core.Path.{_≡_, _∙_, sym, ap₂}
 use lib.ListN.{length}
