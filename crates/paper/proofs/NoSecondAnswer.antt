@@ -47,7 +47,7 @@ use Rattle.spell.specs.Spell.{integerFits, integerText, realFits, realText}
 use Rattle.delivery.specs.Deliver.{lend, deliverOf, lentAfter, columnFits, rowFits, columnFrom, openedAt, closeFault}
 use Rattle.delivery.specs.declared.Delivered.{Delivered}
 use Rattle.lines.specs.Lines.{reportText, used, written, refusedText, unfinishedText, endText}
-use Rattle.listing.specs.Turns.{turn, stepOf, cellsOf, lastText}
+use Rattle.listing.specs.Turns.{turn, stepOf, cellsOf as cellsTaken, lastText}
 use Rattle.listing.specs.declared.Turn.{Turn}
 use Rattle.written.specs.Cells.{canSend, sendable, postOf, firstRow, profileCells}
 use Rattle.written.specs.Sending.{sheetFault, countOf, blockFault, blockAfter}
@@ -431,8 +431,8 @@ pub take-block : (s : Session) (number : ℕ) (block : List ℕ) (grid : List �
     → b ≡ stepOf s number block grid → a ≡ b
 take-block s number block grid = one-answer
 
-pub take-block-grid : (s : Session) (number : ℕ) (block : List ℕ) (grid : List ℤ) {a b : List ℤ} → a ≡ cellsOf s number block grid
-    → b ≡ cellsOf s number block grid → a ≡ b
+pub take-block-grid : (s : Session) (number : ℕ) (block : List ℕ) (grid : List ℤ) {a b : List ℤ} → a ≡ cellsTaken s number block grid
+    → b ≡ cellsTaken s number block grid → a ≡ b
 take-block-grid s number block grid = one-answer
 
 pub put-last : (t : Turn) (out : List ℕ) {a b : ℕ} → a ≡ used (lastText t) out → b ≡ used (lastText t) out → a ≡ b
