@@ -1,7 +1,7 @@
 -- A block of a profile judged: a fault is its refusal, and without one its step is the definition's verdict.
 use mathlib.Core.List.{List, []}
 use mathlib.Core.Path.{_≡_, sym, _∙_, ap, refl, subst⁻¹}
-use Prim.Native.Nat.{ℕ, _≤_, _<_, _+_}
+use Prim.Native.Nat.{ℕ, _≤_, _<_, _+_, min}
 use native.Mathlib.Omega.{arith}
 use lib.IntN.{ℤ, natAbs}
 use lib.ListN.{length}
@@ -12,18 +12,19 @@ use Rattle.field.specs.Field.{fault}
 use Rattle.field.specs.declared.Fault.{Fault}
 use Rattle.frame.specs.Frame.{zOf, cellsOf}
 use Rattle.profile.specs.RecordB.{recordB}
+use Rattle.profile.specs.declared.record_b.Head.{Head}
 use Rattle.profile.specs.RecordC.{recordC}
 use Rattle.session.specs.Session.{busy}
 use Rattle.session.specs.declared.Session.{Session}
 use Rattle.session.specs.declared.Profile.{Profile}
 use Rattle.ground.specs.declared.Tally.{Tally}
-use Rattle.ground.specs.Posts.{noTally, tallyAll, heights, postsOf}
+use Rattle.ground.specs.Posts.{noTally, tallyAll, heights, postsOf, blockFault}
 use Rattle.ground.proofs.PostsRead.{scan-few, scan-fair, posts-length}
 use Rattle.ground.proofs.Tallies.{none-fair}
 use Rattle.ground.proofs.Heights.{heights-length}
 use Rattle.posts.specs.Steps.{BlockScanned}
 use Rattle.posts.specs.declared.Scan.{Scan}
-use Rattle.delivery.specs.Deliver.{Verdict, wrong, unless, filling, heightsHere, nextCell, fills, finishedSession, further, opening, later}
+use Rattle.delivery.specs.Deliver.{Verdict, wrong, unless, filling, heightsHere, nextCell, fills, finishedSession, further, opening, later, postsHere, openingWith, placed, firstColumn, opened}
 use Rattle.load.specs.Steps.{Stepped, Ready, fillStep, stepVerdict, Filling, Placing, finishStep}
 use Rattle.load.specs.declared.steps.Step.the-variants.{Wrong, Fills}
 use Rattle.load.specs.declared.steps.Step.{Step}
@@ -49,6 +50,25 @@ module _ (f : Fault) (number : ℕ) (v : Verdict) (kind byte : ℕ) (is : fault 
   fault-none h =
       let q : eqb (f .kind) 0 ≡ true = ap (λ (x : Fault). eqb (x .kind) 0) (sym is) ∙ eq-eqb kind 0 h in
       sym (rw q)
+
+-- a block of the open profile, and a profile's first, by the fault of its n posts
+module _ (s : Session) (number : ℕ) (block : List ℕ) (n kind byte : ℕ) where
+  module _ (e : n ≡ postsHere (s .profile) 170) (is : fault kind byte ≡ blockFault 1 n block) where
+    pub further-refused : (kind ≡ 0 → ⊥) → wrong kind number byte ≡ further s number block
+    further-refused h = rw (← e) (fault-refused (blockFault 1 n block) number _ kind byte is h)
+
+    pub further-fine : kind ≡ 0
+        → filling s number (s .column) (s .profile) (heightsHere s (s .profile) 1 n block) ≡ further s number block
+    further-fine h = rw (← e) (fault-none (blockFault 1 n block) number _ kind byte is h)
+
+  module _ (head : Head) (e : n ≡ min (head .posts) 146) (is : fault kind byte ≡ blockFault 145 n block) where
+    pub opening-refused : (kind ≡ 0 → ⊥) → wrong kind number byte ≡ openingWith s number block head
+    opening-refused h = rw (← e) (fault-refused (blockFault 145 n block) number _ kind byte is h)
+
+    pub opening-fine : kind ≡ 0
+        → placed s number head (filling s number (firstColumn s head) (opened s head) (heightsHere s (opened s head) 145 n block))
+        ≡ openingWith s number block head
+    opening-fine h = rw (← e) (fault-none (blockFault 145 n block) number _ kind byte is h)
 
 -- the tally of a block scanned without fault
 pub record SmallTally (n : ℕ) (u : Tally) : Type 0 where

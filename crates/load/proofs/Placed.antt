@@ -1,5 +1,5 @@
 -- A profile that opens: what its place gives the code, and the order of its last rules.
-use mathlib.Core.Bool.{false, Bool, true}
+use mathlib.Core.Bool.{false, Bool, true, cond}
 use mathlib.Core.Path.{_≡_, refl, sym, _∙_, ap, subst⁻¹}
 use mathlib.Core.List.{List}
 use Prim.Native.Nat.{ℕ, _≤_}
@@ -21,6 +21,23 @@ use Rattle.load.proofs.Judged.{refused-step, filled-step}
 
 pub no-blocks : (s : Session) → busy s ≡ false → openBlocks s ≡ 0
 no-blocks s e = rw e
+
+-- which of a first block's three ways is gone
+module _ (s : Session) (number : ℕ) (h : Head) (n : ℕ) (u : Tally) where
+  abbrev placeBy : Bool → Bool → Step
+  placeBy east north =
+      cond east (cond north (fillStep s number (firstColumn s h) (opened s h) n u) (Wrong 10 number 49)) (Wrong 10 number 25)
+
+  pub place-column : columnFits s (columnPlace s h) ≡ false → Wrong 10 number 25 ≡ placeStep s number h n u
+  place-column p = λ j. placeBy (sym p j) (rowFits s (h .posts) (rowPlace s h))
+
+  pub place-row : columnFits s (columnPlace s h) ≡ true → rowFits s (h .posts) (rowPlace s h) ≡ false
+      → Wrong 10 number 49 ≡ placeStep s number h n u
+  place-row p q = λ j. placeBy (sym p j) (sym q j)
+
+  pub place-good : columnFits s (columnPlace s h) ≡ true → rowFits s (h .posts) (rowPlace s h) ≡ true
+      → fillStep s number (firstColumn s h) (opened s h) n u ≡ placeStep s number h n u
+  place-good p q = λ j. placeBy (sym p j) (sym q j)
 
 module _ (s : Session) (number : ℕ) (h : Head) (n : ℕ) (u : Tally) (k : Placeable s number h n u) where
   pub opened-filling : Filling s (opened s h) n u

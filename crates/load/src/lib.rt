@@ -16,7 +16,7 @@ ghost use lib.ListN.{length};
 ghost use Rattle.sheet.specs.RecordA.{recordA};
 ghost use Rattle.frame.specs.Frame.{columnsOf, rowsOf, cellsOf};
 ghost use Rattle.delivery.specs.Deliver.{lend, deliverOf, lentAfter, verdictOf};
-ghost use Rattle.load.specs.Steps.{room, gateBy, gateOf, firstJudged, laterJudged, Judging, Doable, Does};
+ghost use Rattle.load.specs.Steps.{room, gateOf, firstJudged, laterJudged, Judging, Doable, Does};
 
 fn cells_of(h: Header) -> u64
     requires { ⌜ (columnsOf h ≤ 2048) × (rowsOf h ≤ 2048) ⌝ }
@@ -25,61 +25,33 @@ fn cells_of(h: Header) -> u64
     frame::columns(h) * frame::rows(h)
 }
 
-// The first tests by their answers, in document 01's order.
-fn gate_by(
-    whole: bool,
-    sound: bool,
-    held: bool,
-    ahead: bool,
-    first: bool,
-    complete: bool,
-    roomy: bool,
-) -> Gate
-    ensures { λ r. ⌜ r ≡ gateBy whole sound held ahead first complete roomy ⌝ }
-{
-    if !whole {
-        return Gate::Stop(1);
-    }
-    if !sound {
-        return Gate::Stop(2);
-    }
-    if held {
-        return Gate::Again;
-    }
-    if ahead {
-        return Gate::Stop(3);
-    }
-    if first {
-        return Gate::Begin;
-    }
-    if complete {
-        return Gate::Stop(4);
-    }
-    if !roomy {
-        return Gate::Stop(12);
-    }
-    Gate::Later
-}
-
-// The first tests: a whole block, a sound session, a number held already, ahead or 0, a complete sheet, cells enough.
+// The first tests, in document 01's order.
 fn gate(s: Session, number: u64, bytes: usize, cells: usize) -> Gate
     ensures { λ r. ⌜ r ≡ gateOf s number bytes (room cells) ⌝ }
 {
+    if bytes != 1024 {
+        return Gate::Stop(1);
+    }
+    if !session::is_sound(s) {
+        return Gate::Stop(2);
+    }
+    if number < s.taken {
+        return Gate::Again;
+    }
+    if s.taken < number {
+        return Gate::Stop(3);
+    }
+    if number == 0 {
+        return Gate::Begin;
+    }
+    if session::is_complete(s) {
+        return Gate::Stop(4);
+    }
     let h = s.header;
-    let held = number < s.taken;
-    let ahead = s.taken < number;
-    let sound = session::is_sound(s);
-    let complete = session::is_complete(s);
-    let roomy = frame::has_room(h, cells as u64);
-    gate_by(
-        bytes == 1024,
-        sound,
-        held,
-        ahead,
-        number == 0,
-        complete,
-        roomy,
-    )
+    if !frame::has_room(h, cells as u64) {
+        return Gate::Stop(12);
+    }
+    Gate::Later
 }
 
 // Block 0: its header, where the cells lent are enough.

@@ -1,12 +1,21 @@
 -- Past the count nothing is written; block 0 and the later ones are.
 use borrow.Author.Needs.{needs}
-use native.Mathlib.Omega.{arith}
+use mathlib.Core.Path.{subst}
+use Prim.Native.Nat.{ℕ, _<_}
+use Rattle.written.specs.Cells.{blockCount}
+use Rattle.send.proofs.BlockCells.{some-of}
 use Rattle.send.proofs.AnswerLaws.{past-end, written-zero, written-later}
 use Rattle.send.proofs.write_number.Statement.{statement}
 use Rattle.send.proofs.write_number.Tie as tie
 
 count-of-requires : tie.Need-count-of-requires
-count-of-requires c κs = search needs
+count-of-requires c κs = c .before .before .pre .sheet
+
+-- past the first test the block is one of the sheet
+below : (c : tie.Else1)
+    → c .before .before .before .before .args .number < blockCount (c .before .before .before .before .args .h) (c .before .before .before .before .args .grid .now)
+below c =
+    subst (λ (n : ℕ). c .before .before .before .before .args .number < n) (c .before .count-of .ensures) (c .if1 .left)
 
 returns : tie.Need-returns
 returns c =
@@ -15,7 +24,7 @@ returns c =
     (c .before .count-of .result) (c .before .count-of .ensures) (c .if1 .taken)
 
 write-block-zero-requires : tie.Need-write-block-zero-requires
-write-block-zero-requires c κs = search needs
+write-block-zero-requires c κs = c .before .before .before .before .before .before .pre
 
 same-length : tie.Need-same-length
 same-length c = search needs
@@ -27,12 +36,15 @@ returns-2 c =
     let o = n .before .before .before .before .before in
     written-zero (o .args .template .now) (o .args .h) (o .args .grid .now) (o .args .number) (o .args .block .now)
     (w .write-block-zero .last .1 .1 .1 .0)
-    (omega (arith, n .before .if1 .left, n .before .before .count-of .ensures))
+    (below (n .before))
     (n .if2 .taken)
     (w .write-block-zero .ensures)
 
 write-later-requires : tie.Need-write-later-requires
-write-later-requires c κs = search needs
+write-later-requires c κs =
+    let n = c .before in
+    let p = n .before .before .before .before .before .pre in
+    record { sheet = p .sheet; later = some-of (n .if2 .left); below = below (n .before); long = p .long }
 
 same-length-2 : tie.Need-same-length-2
 same-length-2 c = search needs
@@ -44,7 +56,7 @@ returns-3 c =
     let o = n .before .before .before .before .before in
     written-later (o .args .template .now) (o .args .h) (o .args .grid .now) (o .args .number) (o .args .block .now)
     (w .write-later .last .1 .1 .1 .0)
-    (omega (arith, n .before .if1 .left, n .before .before .count-of .ensures))
+    (below (n .before))
     (n .if2 .left)
     (w .write-later .ensures)
 

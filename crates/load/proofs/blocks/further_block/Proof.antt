@@ -8,7 +8,7 @@ use Rattle.posts.specs.Steps.{BlockScanned}
 use Rattle.delivery.specs.Deliver.{further}
 use Rattle.posts.proofs.Asking.{asks, scan-known}
 use Rattle.load.specs.Steps.{Placing}
-use Rattle.load.proofs.Judged.{Scannable, refused-step, fault-refused, scanned-filling, fault-none, filled-step}
+use Rattle.load.proofs.Judged.{Scannable, refused-step, further-refused, further-fine, scanned-filling, filled-step}
 use Rattle.load.proofs.blocks.further_block.Statement.{statement}
 use Rattle.load.proofs.blocks.further_block.Tie as tie
 
@@ -84,10 +84,10 @@ returns : tie.Need-returns
 returns c =
     let s = c .before .before .before in
     let a = s .before .before .before .before .before .before .before .before .before .args in
-    let n = s .before .before .before .before .fewer-of .ensures in
+    let l = s .before .before .before .before in
     refused-step (a .s) (further (a .s) (a .number) (a .block .now)) (a .scratch .now) (s .scan-block .last .1 .1 .1 .1 .1 .0) (s .scan-block .result .kind) (a .number) (s .scan-block .result .byte)
     (scanned s .kept)
-    (rw (← n) (fault-refused _ (a .number) _ (s .scan-block .result .kind) (s .scan-block .result .byte) (scanned s .fault-is) (c .if1 .taken)))
+    (further-refused (a .s) (a .number) (a .block .now) (l .fewer-of .result) (s .scan-block .result .kind) (s .scan-block .result .byte) (l .fewer-of .ensures) (scanned s .fault-is) (c .if1 .taken))
 
 fill-step-requires : tie.Need-fill-step-requires
 fill-step-requires c κs =
@@ -119,7 +119,7 @@ returns-2 c =
     (c .fill-step .result)
     (c .fill-step .ensures)
     (further (a .s) (a .number) (a .block .now))
-    (rw (← (l .fewer-of .ensures)) (fault-none _ (a .number) _ (s .scan-block .result .kind) (s .scan-block .result .byte) (scanned s .fault-is) (c .before .before .if1 .left)))
+    (further-fine (a .s) (a .number) (a .block .now) (l .fewer-of .result) (s .scan-block .result .kind) (s .scan-block .result .byte) (l .fewer-of .ensures) (scanned s .fault-is) (c .before .before .if1 .left))
 
 pub further-block-spec : {M : Type 1} → statement M
 further-block-spec =

@@ -9,7 +9,7 @@ use Rattle.delivery.specs.Deliver.{openingWith}
 use lib.ListN.{length}
 use Rattle.posts.proofs.Asking.{asks, scan-known}
 use Rattle.load.specs.Steps.{Placeable, Stepped}
-use Rattle.load.proofs.Judged.{scanned-tally, refused-step, fault-refused, fault-none}
+use Rattle.load.proofs.Judged.{scanned-tally, refused-step, opening-refused, opening-fine}
 use Rattle.load.proofs.Placed.{placed-step}
 use Rattle.load.proofs.blocks.open_block.Statement.{statement}
 use Rattle.load.proofs.blocks.open_block.Tie as tie
@@ -71,10 +71,10 @@ returns : tie.Need-returns
 returns c =
     let s = c .before .before .before in
     let a = s .before .before .before .before .before .before .before .args in
-    let n = s .before .before .before .before .fewer-of .ensures in
+    let l = s .before .before .before .before in
     refused-step (a .s) (openingWith (a .s) (a .number) (a .block .now) (a .head)) (a .scratch .now) (s .scan-block .last .1 .1 .1 .1 .1 .0) (s .scan-block .result .kind) (a .number) (s .scan-block .result .byte)
     (scanned s .kept)
-    (rw (← n) (fault-refused _ (a .number) _ (s .scan-block .result .kind) (s .scan-block .result .byte) (scanned s .fault-is) (c .if1 .taken)))
+    (opening-refused (a .s) (a .number) (a .block .now) (l .fewer-of .result) (s .scan-block .result .kind) (s .scan-block .result .byte) (a .head) (l .fewer-of .ensures) (scanned s .fault-is) (c .if1 .taken))
 
 place-profile-requires : tie.Need-place-profile-requires
 place-profile-requires c κs = placeable (c .before .before .before .before) (c .before .if1 .left)
@@ -88,7 +88,7 @@ returns-2 c =
     let a = s .before .before .before .before .before .before .before .args in
     let l = s .before .before .before .before in
     subst (λ v. Stepped (a .s) v (a .scratch .now) (s .scan-block .last .1 .1 .1 .1 .1 .0) (c .place-profile .result))
-    (rw (← (l .fewer-of .ensures)) (fault-none _ (a .number) _ (s .scan-block .result .kind) (s .scan-block .result .byte) (scanned s .fault-is) (c .before .before .if1 .left)))
+    (opening-fine (a .s) (a .number) (a .block .now) (l .fewer-of .result) (s .scan-block .result .kind) (s .scan-block .result .byte) (a .head) (l .fewer-of .ensures) (scanned s .fault-is) (c .before .before .if1 .left))
     (placed-step (a .s) (a .number) (a .head) (l .fewer-of .result) (s .scan-block .result .tally) (placeable s (c .before .before .if1 .left)) 145 (a .block .now) (a .scratch .now) (s .scan-block .last .1 .1 .1 .1 .1 .0) (s .scan-block .result)
     refl
     (scanned s)

@@ -7,7 +7,7 @@ use Rattle.laws.proofs.Signs.{back}
 use Rattle.frame.specs.Frame.{columnPlaceOf, rowPlaceOf}
 use Rattle.delivery.specs.Deliver.{columnFits, columnPlace, rowFits, rowPlace, opened, openedAt, columnFrom, firstColumn}
 use Rattle.load.specs.Steps.{fillStep}
-use Rattle.load.proofs.Placed.{opened-filling, opened-placing}
+use Rattle.load.proofs.Placed.{place-column, place-row, place-good, opened-filling, opened-placing}
 use Rattle.load.proofs.blocks.place_profile.Statement.{statement}
 use Rattle.load.proofs.blocks.place_profile.Tie as tie
 
@@ -29,7 +29,9 @@ east : (c : tie.Else1) → columnFits (c .before .before .before .before .before
 east c = sym (column-is (c .before)) ∙ not-false _ (c .if1 .left)
 
 returns : tie.Need-returns
-returns c = sym (simp (sym (column-is (c .before)) ∙ not-true _ (c .if1 .taken)))
+returns c =
+    let a = c .before .before .before .before .before .args in
+    place-column (a .s) (a .number) (a .head) (a .n) (a .u) (sym (column-is (c .before)) ∙ not-true _ (c .if1 .taken))
 
 row-of-requires : tie.Need-row-of-requires
 row-of-requires c κs = search needs
@@ -50,7 +52,9 @@ north : (c : tie.Else2) → rowFits (c .before .before .before .before .before .
 north c = sym (row-is (c .before)) ∙ not-false _ (c .if2 .left)
 
 returns-2 : tie.Need-returns-2
-returns-2 c = sym (simp (east (c .before .before .before .before), sym (row-is (c .before)) ∙ not-true _ (c .if2 .taken)))
+returns-2 c =
+    let a = c .before .before .before .before .before .before .before .before .before .args in
+    place-row (a .s) (a .number) (a .head) (a .n) (a .u) (east (c .before .before .before .before)) (sym (row-is (c .before)) ∙ not-true _ (c .if2 .taken))
 
 first-column-requires : tie.Need-first-column-requires
 first-column-requires c κs = search needs
@@ -82,7 +86,7 @@ returns-3 c =
     let a = c .before .before .before .before .before .before .before .before .before .before .before .before .args in
     c .fill-step .ensures
     ∙ (λ j. fillStep (a .s) (a .number) (from-is (c .before) j) (profile-is (c .before) j) (a .n) (a .u))
-    ∙ sym (simp (east (c .before .before .before .before .before .before .before), north (c .before .before .before)))
+    ∙ place-good (a .s) (a .number) (a .head) (a .n) (a .u) (east (c .before .before .before .before .before .before .before)) (north (c .before .before .before))
 
 pub place-profile-spec : {M : Type 1} → statement M
 place-profile-spec =

@@ -1,13 +1,12 @@
 -- A good block: filled, and closed where its last post is read.
 use borrow.Author.Needs.{needs}
-use mathlib.Core.Path.{sym, _∙_, ap, ap₂}
-use borrow.Author.Tests.{lt-ltb, le-ltb}
+use mathlib.Core.Path.{_∙_, ap, ap₂}
 use Prim.Native.Nat.{_-_}
 use native.Mathlib.Omega.{arith}
 use Rattle.delivery.specs.Deliver.{closeFault, nextCell, closedSession}
 use Rattle.load.specs.declared.steps.Step.the-variants.{Fills}
 use Rattle.load.specs.Steps.{filledWith}
-use Rattle.load.proofs.Merging.{close-wrong, close-good}
+use Rattle.load.proofs.Merging.{close-wrong, close-good, fill-more, fill-last}
 use Rattle.load.proofs.steps.fill_step.Statement.{statement}
 use Rattle.load.proofs.steps.fill_step.Tie as tie
 
@@ -23,8 +22,9 @@ add-if1 c = search needs
 returns : tie.Need-returns
 returns c =
     let n = c .before .before .before in
-    (λ j. Fills (n .before .fill-session .ensures j) (n .next-cell .ensures j) (n .before .before .args .n))
-    ∙ sym (simp (lt-ltb _ _ (c .if1 .taken)))
+    let a = n .before .before .args in
+    (λ j. Fills (n .before .fill-session .ensures j) (n .next-cell .ensures j) (a .n))
+    ∙ fill-more (a .s) (a .number) (a .column) (a .p) (a .n) (a .u) (c .if1 .taken)
 
 open-blocks-requires : tie.Need-open-blocks-requires
 open-blocks-requires c κs = search needs
@@ -43,7 +43,7 @@ returns-2 c =
     let after = filledWith (a .s) (a .column) (a .p) (a .n) (a .u) in
     let fault = k .close-fault .ensures ∙ ap₂ closeFault (ap (λ x. a .number - x) (k .before .open-blocks .ensures)) (f .fill-session .ensures) in
     close-wrong (a .s) (a .number) after (nextCell (a .s) (a .column) (a .p)) (a .n) (k .close-fault .result) fault (c .if2 .taken)
-    ∙ sym (simp (le-ltb _ _ (k .before .before .if1 .left)))
+    ∙ fill-last (a .s) (a .number) (a .column) (a .p) (a .n) (a .u) (k .before .before .if1 .left)
 
 close-session-requires : tie.Need-close-session-requires
 close-session-requires c κs =
@@ -60,7 +60,7 @@ returns-3 c =
     let fault = k .close-fault .ensures ∙ ap₂ closeFault (ap (λ x. a .number - x) (k .before .open-blocks .ensures)) (f .fill-session .ensures) in
     (λ j. Fills ((c .close-session .ensures ∙ ap closedSession (f .fill-session .ensures)) j) (k .before .before .before .before .before .next-cell .ensures j) (a .n))
     ∙ close-good (a .s) (a .number) after (nextCell (a .s) (a .column) (a .p)) (a .n) (k .close-fault .result) fault (c .before .if2 .left)
-    ∙ sym (simp (le-ltb _ _ (k .before .before .if1 .left)))
+    ∙ fill-last (a .s) (a .number) (a .column) (a .p) (a .n) (a .u) (k .before .before .if1 .left)
 
 pub fill-step-spec : {M : Type 1} → statement M
 fill-step-spec =

@@ -3,7 +3,8 @@ use native.Mathlib.Omega.{arith}
 use lib.ListN.{length}
 use Prim.Native.Nat.{_≤_}
 use borrow.Author.Needs.{needs}
-use mathlib.Core.Path.{refl}
+use mathlib.Core.Path.{refl, _∙_}
+use lib.Seq.{length-take-le}
 use Rattle.frame.specs.Frame.{columnsOf, rowsOf}
 use Rattle.written.specs.Blocks.{blockZero}
 use Rattle.written.proofs.SheetSent.{start-from}
@@ -24,10 +25,25 @@ part-write-block-zero-end : tie.Need-part-write-block-zero-end
 part-write-block-zero-end c = room (c .before .before)
 
 write-block-zero-requires : tie.Need-write-block-zero-requires
-write-block-zero-requires c κs = search needs
+write-block-zero-requires c κs =
+    let s = c .before .before .before in
+    record {
+      sheet = s .pre .sheet;
+      template-long = s .pre .template-long;
+      long = length-take-le 1024 (s .args .out .now) (room s);
+    }
 
 write-columns-requires : tie.Need-write-columns-requires
-write-columns-requires c κs = search needs
+write-columns-requires c κs =
+    let z = c .before .before .before in
+    let s = z .before .before .before .before in
+    let zero = blockZero (s .args .template .now) (s .args .h) (s .args .grid .now) in
+    record {
+      sheet = s .pre .sheet;
+      room =
+          block-put (s .args .out .now) zero 0 1024 (room s) refl (z .write-block-zero .last .1 .1 .1 .0) (z .write-block-zero .ensures) (z .write-block-zero .kept .1 .1 .1 .0) .kept
+          ∙ s .pre .room;
+    }
 
 same-length : tie.Need-same-length
 same-length c = search needs
