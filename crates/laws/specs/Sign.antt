@@ -28,7 +28,7 @@ sameZ (pos a) (negsuc b) = false
 sameZ (negsuc a) (pos b) = false
 sameZ (negsuc a) (negsuc b) = eqb a b
 
--- how many from the first to the last, ends included; none where the last lies before the first
+-- the number itself, and 0 for one below it
 abbrev pub notNegative : ℤ → ℕ
 notNegative (pos n) = n
 notNegative (negsuc n) = 0
