@@ -1,7 +1,7 @@
 -- How many digits a number is written with: the count from the top down, a step at a time, what it bounds, and the test for few of them.
-use mathlib.Core.Path.{_≡_, refl, _∙_, ap}
+use mathlib.Core.Path.{_≡_, refl, sym, _∙_, ap}
 use Prim.Native.Nat.{ℕ, zero, suc, _-_, _^_, _≤_, _<_, _+_, _%_}
-use borrow.Author.Tests.{eq-eqb, ne-eqb, le-ltb, lt-ltb, eqb-true, eqb-false, leb-true, leb-false}
+use borrow.Author.Tests.{eq-eqb, ne-eqb, le-ltb, lt-ltb, ltb-true, eqb-true, eqb-false, leb-true, leb-false}
 use native.Mathlib.Omega.{arith}
 use lib.Dec.{ltb, leb, eqb}
 use mathlib.Core.Bool.{true}
@@ -10,6 +10,7 @@ use Rattle.laws.specs.Digits.{places, short}
 use Rattle.laws.proofs.Tens.{ten-up, ten-pos}
 use Rattle.laws.proofs.Tests.{by-test}
 use Rattle.laws.proofs.Shorts.{places-above, places-below}
+use Rattle.number.specs.Tens.{tenTo}
 use Rattle.numerals.specs.Numerals.{count}
 
 pub count-zero : (none k n : ℕ) → n ≡ 0 → count none k n ≡ none
@@ -105,6 +106,20 @@ unfolding short
 short-all k p n h =
     let e : places k n - p ≡ 0 = omega arith in
     rw e (eq-eqb (n % 1) 0 (mod-one n))
+
+-- a number below the power of ten has no digit past those
+pub short-small : (p n : ℕ) → n < tenTo p → short 18 p n ≡ true
+unfolding tenTo
+short-small p n h =
+    by-test (ltb p 19)
+    (λ e.
+    let q : p < 19 = ltb-true p 19 e in
+    let s : p + (18 - p) ≡ 18 = omega arith in
+    let m : places 18 n ≡ places p n = ap (λ (k : ℕ). places k n) (sym s) ∙ places-past p (18 - p) n (rw e at h) in
+    short-all 18 p n (rw m (places-most p n)))
+    (λ e.
+    let z : n < 0 = rw e at h in
+    absurd (omega arith))
 
 pub short-test : (k p n : ℕ) → short k p n ≡ eqb (n % 10 ^ (places k n - p)) 0
 unfolding short

@@ -73,10 +73,13 @@ pub fn count_of(none: usize, k: usize, n: u64) -> usize
     places_of(k, n)
 }
 
-// Whether the digits past the first few are all zero.
+// Whether the digits past the first few are all zero. Most numbers have none: a delivery asks this of every real of its session.
 pub fn is_short(digits: usize, size: u64) -> bool
     ensures { λ r. ⌜ r ≡ short 18 digits size ⌝ }
 {
+    if size < number::ten_to(digits) {
+        return true;
+    }
     let count = places_of(18, size);
     if count <= digits {
         return true;
