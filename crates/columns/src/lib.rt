@@ -130,7 +130,7 @@ fn filled_end(column: &[i32]) -> usize
     0
 }
 
-// "Each column is one profile from its first to its last filled row"; "an all-void column is one void post at row 0".
+// "Writing", each column: its profile runs between the outermost filled rows; without any, a single void at row 0.
 pub fn scan_column(column: &[i32]) -> Column
     ensures { λ r. ⌜ (r .row ≡ firstRow (now (column .entry))) × (r .posts ≡ length (profileCells (now (column .entry)))) ⌝ }
 {

@@ -299,7 +299,7 @@ opening-grows s block h t due idle below e z c r =
 
 -- ---- a verdict, test by test
 
--- "each filled cell lies from -4,276,700 to 4,276,700": so does every height that a verdict fills a cell with, or it is void
+-- the bound on filled cells, 4,276,700 either way: every height that a verdict fills a cell with keeps it, or is void
 abbrev pub Cells : Verdict → Type 0
 Cells again = Unit {0}
 Cells (wrong kind block byte) = Unit {0}

@@ -72,7 +72,7 @@ sheetTally s = record { filled = s .filled; low = s .low; high = s .high }
 abbrev pub profileTally : Profile → Tally
 profileTally p = record { filled = p .filled; low = p .low; high = p .high }
 
--- "those of the cells it filled, or zero if there are none": hundredths as billionths
+-- what a closing profile must state, zero where it filled no cell: hundredths as billionths
 abbrev pub stated : ℕ → ℤ → ℤ
 stated filled extreme = cond (eqb filled 0) (pos 0) (extreme *ℤ pos (10 ^ 7))
 
@@ -170,13 +170,13 @@ further s number block =
     let n = postsHere p 170 in
     unless (blockFault 1 n block) number (filling s number (s .column) p (heightsHere s p 1 n block))
 
--- "x is on the lattice, profile 1 at any column that leaves room for all n and each next one a spacing further east"
+-- "x is on the lattice": the first profile so that all n find room, every other one column east of the one before
 abbrev pub columnFits : Session → Place → Bool
 columnFits s (On c) =
     cond (eqb (s .closed) 0) (leb (c + s .header .profiles) (columnsOf (s .header))) (eqb c (s .column + s .closed))
 columnFits s Off = false
 
--- "y is on the lattice and its row plus m is at most the rows"
+-- "y is on the lattice": and the m posts from its row on do not pass the rows
 abbrev pub rowFits : Session → ℕ → Place → Bool
 rowFits s posts (On r) = leb (r + posts) (rowsOf (s .header))
 rowFits s posts Off = false

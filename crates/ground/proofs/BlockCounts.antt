@@ -1,4 +1,4 @@
--- "Posts 146, 147, 316, 317, 1201 take 1, 2, 2, 3, 8 blocks": the count that document 01 tells is the one that deliveries come to.
+-- How many blocks a profile takes: the count that document 01 tells is the one that deliveries come to.
 use mathlib.Core.Path.{_≡_}
 use Prim.Native.Nat.{ℕ, _≤_, _+_, _-_, _/_, _%_, _<_}
 use native.Mathlib.Omega.{arith}

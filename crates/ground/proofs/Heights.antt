@@ -77,11 +77,11 @@ module _ (z : ℕ) (datum post : ℤ) (p : natAbs post ≤ 32767) (q : z ≤ 100
   scaled : Scaled z datum post
   scaled = record { post-most = p; z-most = q; datum-most = d }
 
-  -- "so each filled cell lies from -4,276,700 to 4,276,700"
+  -- the bound on filled cells, 4,276,700 either way
   pub height-bound : Cell (height z datum post)
   height-bound = height-cases z datum post scaled
 
-  -- "Scaling -32767 and adding the datum, then failing to see a void": no other post's height is the void
+  -- no post but the void one has the void for its height
   pub height-filled : (post ≡ voidPost → ⊥) → sameZ (height z datum post) void ≡ false
   height-filled f =
       rw (sameZ-fails post voidPost f) (far-from-void ((post *ℤ pos z) +ℤ datum) (filled-most z datum post scaled))

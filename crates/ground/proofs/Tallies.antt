@@ -59,7 +59,7 @@ less-le (negsuc a) (negsuc b) t = parts-le (negsuc a) (negsuc b) (omega (arith, 
 not-less-le : (a b : ℤ) → ltZ a b ≡ false → b ≤ℤ a
 not-less-le a b t = ltZ-no (rw t tt)
 
--- "the running least is not above the greatest, both within 4,276,700 of zero"
+-- the extremes as a sound session has them: in order, neither further than 4,276,700 from zero
 pub record InOrder (low high : ℤ) : Type 0 where
   pub ordered : leZ low high ≡ true
   pub low-most : natAbs low ≤ 4276700

@@ -36,7 +36,7 @@ postsOf (suc n) byte block = integer (stretch byte 6 block) .value ∷ postsOf n
 abbrev pub blocksFor : ℕ → ℕ
 blocksFor posts = 1 + (posts - 146 + 169) / 170
 
--- "judged before any scaling. Any other post p fills its cell with p × z spacing + datum, in hundredths"
+-- the void is told by the post itself, before scaling; another post times the z spacing, plus the datum, all in hundredths
 abbrev pub height : ℕ → ℤ → ℤ → ℤ
 height z datum post = cond (sameZ post voidPost) void ((post *ℤ pos z) +ℤ datum)
 

@@ -24,6 +24,6 @@ abbrev pub filled : List ℕ → ℕ
 filled [] = 0
 filled (c ∷ s) = cond (eqb (filled s) 0) (cond (eqb c 32) 0 1) (suc (filled s))
 
--- "from byte 1 to the last non-blank of bytes 1-40; all blank, or a block of another length, gives an empty part"
+-- the name ends at the last of the first 40 bytes that is no blank; it is empty without one, and in a block of another length
 unfoldable pub nameLength : List ℕ → ℕ
 nameLength block = cond (eqb (length block) 1024) (filled (take 40 block)) 0

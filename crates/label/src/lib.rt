@@ -78,7 +78,7 @@ fn name_end(block: &[u8]) -> usize
     k
 }
 
-// "handed back as the part of the caller's block from byte 1 to the last non-blank of bytes 1-40"
+// The name is no copy: the front of the block that the caller lent, up to its last byte that is no blank.
 pub fn name(block: &[u8]) -> &[u8]
     ensures { λ r. ⌜ now r ≡ take (nameLength (now (block .entry))) (now (block .entry)) ⌝ }
 {

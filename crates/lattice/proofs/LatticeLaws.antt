@@ -16,7 +16,7 @@ use Rattle.lattice.specs.declared.Place.the-variants.{On}
 use Rattle.lattice.proofs.Multiples.{upward-reaches, upward-least, upward-zero, first-parts, last-parts, multiple-whole, whole-multiple, first-is, spacings-small}
 use Rattle.lattice.proofs.Cases.{spanned, lattice-cases, lattice-holds, off-on, within-on, hasPlace, place-cases, place-holds, place-known, real-small, small-real, hasLattice, lattice-known}
 
--- "the first is the least multiple not below, the last the greatest multiple not above"
+-- the first multiple is the least one that is not below, the last the greatest that is not above
 module _ (s : ℕ) (p : 0 < s) where
   pub first-not-below : (v : ℤ) → v ≤ℤ (firstMultiple v s *ℤ pos s)
   first-not-below v =
@@ -100,7 +100,7 @@ module _ (least greatest : ℤ) (s : ℕ) (rl : isReal least ≡ true) (rg : isR
         le-through (j *ℤ pos s) (l *ℤ pos s) greatest (multiple-le j l s high) (last-not-above s p greatest),
       )
 
-  -- "every multiple of the spacing between the least and greatest corner value, ends included"
+  -- the lattice has each multiple of the spacing from one corner value to the other, and no other number
   pub lattice-is : (k : ℤ) → Between least greatest s k ↔ OnLattice (latticeOf least greatest s) k
   lattice-is k =
       rw (lattice-cases least greatest s true (lattice-holds least greatest s rl rg p)) (between-on k, on-between k)

@@ -32,7 +32,7 @@ isReal z = ltb (natAbs z) (10 ^ 18)
 abbrev pub emptyLattice : Lattice
 emptyLattice = record { first = pos 0; count = 0 }
 
--- "every multiple of the spacing between the least and greatest corner value, ends included"; none for what is no real or no spacing
+-- each multiple of the spacing from one corner value to the other, both ends too; none for what is no real or no spacing
 unfoldable pub latticeOf : ℤ → ℤ → ℕ → Lattice
 latticeOf least greatest spacing =
     cond (isReal least and isReal greatest and leb 1 spacing)

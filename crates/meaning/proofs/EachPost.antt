@@ -1,4 +1,4 @@
--- Every post in one cell, every other cell of the sheet void, cells past it as lent. Cell = column × rows + row, taken apart, carries it.
+-- Each post has a cell of its own, the rest of the sheet is void, and past it all is as lent. Taking a cell's number apart carries it.
 use mathlib.Core.List.{map, List, _++_, [], _∷_}
 use mathlib.Core.Path.{_≡_, sym, _∙_, ap, ap₂, refl}
 use Prim.Native.Nat.{ℕ, zero, suc, _+_, _<_, _-_, _≤_, _*_, _/_, _%_}

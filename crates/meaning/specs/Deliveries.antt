@@ -94,8 +94,7 @@ pub data Disturbed (r : Reader) : Desk → List Delivery → List Delivery → T
   disturbed : {k : Desk} {es ds : List Delivery} (d : Delivery) → (answered r k d ≡ Taken → ⊥) → Disturbed r k es ds
       → Disturbed r k (d ∷ es) ds
 
--- "A block is taken exactly when its number is the next one, the blocks taken before it and this one together break no rule of
--- document 01, and the grid is long enough": a block is 1,024 bytes
+-- "A block is taken exactly when ..": 1,024 bytes under the next number, no rule of document 01 broken by the text with it, and cells enough
 pub record Due (text : List ℕ) (lent : List ℤ) (d : Delivery) : Type 0 where
   pub next : d .number ≡ blocksIn text
   pub block : length (d .bytes) ≡ 1024

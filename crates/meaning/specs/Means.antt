@@ -60,7 +60,7 @@ begunSession text =
 abbrev pub sessionOf : List ℕ → Session
 sessionOf text = cond (eqb (blocksIn text) 0) fresh (begunSession text)
 
--- "every post in one cell, every other cell of the sheet void, cells past the sheet untouched"
+-- the cells of the sheet by their posts, void where none stands; what lies past the sheet as it was lent
 abbrev pub gridOf : List ℕ → List ℤ → List ℤ
 gridOf text lent =
     cond (eqb (blocksIn text) 0) lent (map (cellIn text) (below (cellsIn text)) ++ drop (cellsIn text) lent)

@@ -67,13 +67,13 @@ blockRules text j k =
     ∷ inBlock b (restFault (postsByte k + 6 * n) (blockAt text b))
     ∷ []
 
--- "x is on the lattice, profile 1 at any column that leaves room for all n and each next one a spacing further east"
+-- "x is on the lattice": the first profile so that all n find room, every other one column east of the one before
 abbrev pub columnKept : List ℕ → ℕ → Place → Bool
 columnKept text j Off = false
 columnKept text zero (On c) = leb (c + profilesIn text) (columnsIn text)
 columnKept text (suc j) (On c) = eqb c (columnIn text 0 + suc j)
 
--- "y is on the lattice and its row plus m is at most the rows"
+-- "y is on the lattice": and the m posts from its row on do not pass the rows
 abbrev pub rowKept : List ℕ → ℕ → Place → Bool
 rowKept text j Off = false
 rowKept text j (On r) = leb (r + headIn text j .posts) (rowsIn text)
@@ -84,7 +84,7 @@ placeRules text j =
     ∷ rule (rowKept text j (rowPlaceIn text j)) (breach 10 (startOf text j) 49)
     ∷ []
 
--- "Closing a profile: its stated least and greatest are those of the cells it filled, or zero if there are none"
+-- "Closing a profile": the two extremes it states are those of its filled cells, zero without any
 abbrev pub closingRules : List ℕ → ℕ → List Breach
 closingRules text j =
     rule (sameZ (headIn text j .least) (leastStated (heightsIn text j))) (breach 11 (startOf text j) 97)
@@ -110,7 +110,7 @@ profileRules text j =
 
 -- ---- the whole sheet
 
--- "Closing the last profile: the same for record A over the sheet"
+-- "Closing the last profile": what record A states, over all filled cells
 abbrev pub sheetRules : List ℕ → List Breach
 sheetRules text =
     rule (sameZ (headerIn text .least) (leastStated (allHeights text))) (breach 11 0 739)

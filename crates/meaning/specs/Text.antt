@@ -70,7 +70,7 @@ postByte i = cond (ltb i 146) (145 + 6 * i) (1 + 6 * ((i - 146) % 170))
 abbrev pub postIn : List ℕ → ℕ → ℕ → ℤ
 postIn text j i = integer (stretch (postByte i) 6 (blockAt text (startOf text j + postBlock i))) .value
 
--- "judged before any scaling. Any other post p fills its cell with p × z spacing + datum, in hundredths"
+-- the void is told by the post itself, before scaling; another post times the z spacing, plus the datum, all in hundredths
 abbrev pub heightIn : List ℕ → ℕ → ℕ → ℤ
 heightIn text j i = height (zIn text) (headIn text j .datum) (postIn text j i)
 
@@ -105,7 +105,7 @@ rowIn text j = numberOn (rowPlaceIn text j)
 abbrev pub cellOfPost : List ℕ → ℕ → ℕ → ℕ
 cellOfPost text j i = columnIn text j * rowsIn text + (rowIn text j + i)
 
--- ---- a cell's value, looked up from the post that stands for it
+-- ---- the value of a cell, from the post that stands there
 
 -- the profile at a column: profile 1 at its own, and each next one a spacing further east
 abbrev pub profileAt : List ℕ → ℕ → ℕ

@@ -1,1 +1,1 @@
-// No code: what the taken blocks, joined and read once as one text, mean.
+// No code: the meaning of a text of whole blocks, and demand 3.

@@ -17,7 +17,7 @@ use Rattle.number.specs.Integer.{read, refused}
 use Rattle.number.specs.Grammar.{Large, Billionths, raised, sunk}
 use Rattle.number.specs.Real.{billionths}
 
--- "magnitude 1,000,000,000 or more (7); not a whole number of billionths, or more than 15 significant digits .. (8)"
+-- the three ways of a value that has its form: too large (7), too fine or too many digits (8), or read
 pub data Valued (negative : Bool) (m p : ℕ) (l : Bool) (e : ℕ) : Reading → Type 0 where
   large : Large m p l e → Valued negative m p l e (refused 7)
   fine : (Large m p l e → ⊥) → ((n : ℕ) → Billionths m p l e n → ⊥) → Valued negative m p l e (refused 8)

@@ -16,7 +16,7 @@ pub data Sign : List ℕ → Bool → Type 0 where
   plus : Sign (43 ∷ []) false
   minus : Sign (45 ∷ []) true
 
--- "An integer field is blanks, an optional sign, then one or more digits up to the field's end."
+-- "An integer field is ..": blanks, a sign or none, and digits, of which the last ends the field
 pub record IntegerText (s : List ℕ) (negative : Bool) (size : ℕ) : Type 0 where
   pub blanks : List ℕ
   pub sign : List ℕ
@@ -33,7 +33,7 @@ pub data Fraction : List ℕ → List ℕ → Type 0 where
   whole : Fraction [] []
   pointed : (digits : List ℕ) → every isDigit digits ≡ true → Fraction (46 ∷ digits) digits
 
--- "an optional exponent (D or E, optional sign, one or two digits)": its text, whether it is negative, its size
+-- "an optional exponent": its text, whether it is negative, its size
 pub data Exponent : List ℕ → Bool → ℕ → Type 0 where
   absent : Exponent [] false 0
   lettered : (letter : ℕ) (sign digits : List ℕ) {negative : Bool} → isLetter letter ≡ true → Sign sign negative

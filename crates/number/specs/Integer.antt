@@ -16,7 +16,7 @@ refused k = record { kind = k; value = pos 0 }
 abbrev pub read : ℤ → Reading
 read z = record { kind = 0; value = z }
 
--- "Read alone, an integer field has 1 to 6 bytes, a real 1 to 24, else kind 1."
+-- "Read alone": a field has a byte at least and a greatest length, 6 for an integer and 24 for a real; another length is kind 1
 abbrev pub within : ℕ → List ℕ → Reading → Reading
 within most s r = cond (leb 1 (length s) and leb (length s) most) r (refused 1)
 
@@ -24,7 +24,7 @@ within most s r = cond (leb 1 (length s) and leb (length s) most) r (refused 1)
 abbrev pub unsignedPart : List ℕ → List ℕ
 unsignedPart s = pastOne isSign (pastAll isBlank s)
 
--- "An integer field is blanks, an optional sign, then one or more digits up to the field's end."
+-- "An integer field is ..": blanks, a sign or none, and digits, of which the last ends the field
 abbrev pub integerForm : List ℕ → Bool
 integerForm s = not (isEmpty (digits (unsignedPart s))) and isEmpty (pastAll isDigit (unsignedPart s))
 

@@ -10,7 +10,7 @@ use Rattle.number.specs.Bytes.{isPoint, isDigit, pastOne, pastAll, digit
 use Rattle.number.specs.declared.Reading.{Reading}
 use Rattle.number.specs.Integer.{read, refused, within, unsignedPart}
 
--- "A real field is blanks, an optional sign, digits with at most one point ..": u is the field past its sign
+-- "digits with at most one point": u is the field past its sign
 abbrev pub fractionPart : List ℕ → List ℕ
 fractionPart u = pastOne isPoint (pastAll isDigit u)
 
@@ -20,7 +20,7 @@ mantissaDigits u = digits u ++ digits (fractionPart u)
 abbrev pub pastMantissa : List ℕ → List ℕ
 pastMantissa u = pastAll isDigit (fractionPart u)
 
--- ".. an optional exponent (D or E, optional sign, one or two digits) ..": x is the field past its mantissa
+-- "an optional exponent": x is the field past its mantissa
 abbrev pub power : List ℕ → List ℕ
 power x = digits (pastOne isSign (pastOne isLetter x))
 
@@ -48,7 +48,7 @@ up u = 9 + cond (powerMinus (pastMantissa u)) 0 (powerSize (pastMantissa u))
 abbrev pub down : List ℕ → ℕ
 down u = length (digits (fractionPart u)) + cond (powerMinus (pastMantissa u)) (powerSize (pastMantissa u)) 0
 
--- "Below are refused, in this order: magnitude 1,000,000,000 or more (7); not a whole number of billionths, or more than 15 .. (8)."
+-- the value: first 7, from 10 ^ 9 units on; then 8, where billionths do not say it or 15 digits do not
 unfoldable pub billionths : Bool → ℕ → ℕ → ℕ → Reading
 billionths minus m u d =
     cond (leb (10 ^ 18 * 10 ^ d) (m * 10 ^ u)) (refused 7)

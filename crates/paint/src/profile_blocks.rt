@@ -1,4 +1,4 @@
-// The blocks of one profile: document 01, "Writing". Each field is written into its own stretch of the lent block, the rest is blanked.
+// The blocks of one profile: document 01, "Writing". A field is lent its stretch of the block and no more; the rest is blanked.
 use columns::post_of;
 ghost use mathlib.Core.List.{[], _∷_};
 ghost use mathlib.Core.Path.{_≡_};

@@ -151,7 +151,7 @@ fn write_field(how: u8, value: i64, kept: &[u8], field: &mut [u8])
     spell::write_spacing(value, field);
 }
 
-// "Each field is written into its own stretch of the lent block"
+// A field is lent its stretch of the block and no more.
 fn write_piece(template: &[u8], i: usize, value: i64, block: &mut [u8])
     requires { ⌜ (length (now template) ≡ 1024) × ((length (now block) ≡ 1024) × (i < 27)) ⌝ }
     ensures { λ _. ⌜ now (block .exit) ≡ pieceBy (now (template .entry)) (stretchAt i) value (now (block .entry)) ⌝ }

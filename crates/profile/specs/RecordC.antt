@@ -1,4 +1,4 @@
--- Document 01, "Record C, only with accuracy 1, is one block of ten six-byte integers (002), then blanks".
+-- Document 01, "Record C": ten integers of six bytes, then blanks.
 use mathlib.Core.List.{List, [], _∷_, _++_}
 use Prim.Native.Nat.{ℕ, _+_}
 use mathlib.Core.Bool.{Bool, true, false, cond, not}

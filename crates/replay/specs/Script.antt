@@ -11,7 +11,7 @@ use Rattle.replay.specs.declared.script.Head.the-variants.{Delivery, End
 abbrev pub countFrom : ℕ → ℕ → Cells
 countFrom got cells = cond (eqb got 4) (cond (ltb 15000 cells) NoCount (Count cells)) NoCount
 
--- "cells lent of that grid's front (4 bytes, at most all), block number (4 bytes, unsigned), length (4 bytes, at most 4,096)";
+-- a delivery's head: how many cells of the front are lent, the block's number, and its length, 4,096 at most; four bytes each;
 -- the script ends where a delivery would begin, and is bad where it ends inside these twelve bytes
 abbrev pub headFrom : ℕ → ℕ → ℕ → ℕ → ℕ → Head
 headFrom got cells lent number bytes =

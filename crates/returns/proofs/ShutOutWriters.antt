@@ -139,7 +139,7 @@ none-when-complete r keeps k d some done t =
     none-defined (k .session) (d .number) (d .bytes) (k .lent) some done
     (ap (λ (x : Delivered). x .answer) (sym (keeps .answers (k .session) (d .number) (d .bytes) (k .lent))) ∙ t)
 
--- ---- "No written real can need more than 15 digits (6 in the spacings)"
+-- ---- every real that is sent has digits enough in its field
 
 -- the reals of every written block: those of block 0, piece by piece and by name (corners, extremes, the angle zero, the spacings), and
 -- those of each profile (the place of its southern post, the datum zero, its extremes)

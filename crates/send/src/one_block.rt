@@ -21,7 +21,7 @@ pub(crate) fn count_of(h: Header, grid: &[i32]) -> u64
     scan::count_blocks(frame::columns(h) as usize, frame::rows(h) as usize, grid)
 }
 
-// Block 0: "the template with numeric fields rewritten, n set to the columns, extremes worked out".
+// Block 0: the template, with its numbers spelled anew, the columns for n, and the extremes of the cells.
 pub(crate) fn write_block_zero(template: &[u8], h: Header, grid: &[i32], block: &mut [u8])
     requires { ⌜ ZeroAsked (now template) h (now grid) (now block) ⌝ }
     ensures { λ _. ⌜ now (block .exit) ≡ blockZero (now (template .entry)) h (now (grid .entry)) ⌝ }

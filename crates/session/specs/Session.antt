@@ -53,7 +53,7 @@ isFresh s =
 abbrev pub busy : Session → Bool
 busy s = not (eqb (s .profile .posts) 0)
 
--- "an open profile's numbers obey record B's field and place rules, its posts read being 146 + 170k and below m"
+-- "an open profile's numbers": those of a head that record B would take at its place, with 146 + 170k of its m posts read
 abbrev pub profileObeys : Header → Profile → Bool
 profileObeys h p =
     leb (p .posts) 2048 and leb (p .row + p .posts) (rowsOf h) and leb (natAbs (p .datum)) 1000000
@@ -67,22 +67,22 @@ openRead s = cond (busy s) (s .profile .read) 0
 abbrev pub openBlocks : Session → ℕ
 openBlocks s = cond (busy s) ((s .profile .read - 146) / 170 + 1) 0
 
--- "where any are filled, the running least is not above the greatest, both within 4,276,700 of zero"
+-- "where any are filled": the extremes in order, neither further than 4,276,700 from zero
 abbrev pub extremesObey : ℕ → ℤ → ℤ → Bool
 extremesObey filled low high =
     implies (ltb 0 filled) (leZ low high and leb (natAbs low) 4276700 and leb (natAbs high) 4276700)
 
--- "profiles closed are 0 to n, and below n if one is open"
+-- "profiles closed": n at most, and fewer while one is open
 abbrev pub closedObeys : Session → Bool
 closedObeys s =
     leb (s .closed) (s .header .profiles) and implies (busy s) (ltb (s .closed) (s .header .profiles))
 
--- "once a profile has begun, its first column leaves room for n"
+-- "once a profile has begun": the first column with n in all stays in the sheet
 abbrev pub columnObeys : Session → Bool
 columnObeys s =
     implies (cond (busy s) true (ltb 0 (s .closed))) (leb (s .column + s .header .profiles) (columnsOf (s .header)))
 
--- "posts lie from closed to 2048 × closed, plus the open profile's posts read"; "filled is at most posts"
+-- "posts lie from ..": 1 to 2048 for a closed profile, and what is read of the open one; no more are filled
 abbrev pub postsObey : Session → Bool
 postsObey s =
     leb (s .closed + openRead s) (s .posts) and leb (s .posts) (2048 * s .closed + openRead s)
@@ -94,7 +94,7 @@ finishObeys s =
     leb (s .finished) 1
     and implies (eqb (s .finished) 1) (eqb (s .header .accuracy) 1 and eqb (s .closed) (s .header .profiles))
 
--- "taken lies from 1 + closed to 1 + 13 × closed, plus the open profile's blocks, plus one for a record C"
+-- "taken lies from ..": block 0, 1 to 13 for a closed profile, the blocks of the open one, and a record C
 abbrev pub takenObeys : Session → Bool
 takenObeys s =
     leb (1 + s .closed + openBlocks s + s .finished) (s .taken)

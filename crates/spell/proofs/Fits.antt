@@ -94,7 +94,7 @@ spacing-fits zeros v small modest rest = digits-fit 6 12 zeros (pos v) small mod
 pub whole-spacing-fits : (v : ℕ) → 10 ^ 9 ≤ v → v ≤ 9999 * 10 ^ 9 → v % 10 ^ 9 ≡ 0 → realFits 6 12 (pos v) ≡ true
 whole-spacing-fits v low high rest = spacing-fits 9 v (omega arith) (omega arith) rest
 
--- z: "above 0, at most 1, multiple of 0.1 in feet, 0.01 in metres"
+-- a z spacing: hundredths of a unit, up to one
 pub fine-spacing-fits : (v : ℕ) → 10 ^ 7 ≤ v → v ≤ 10 ^ 9 → v % 10 ^ 7 ≡ 0 → realFits 6 12 (pos v) ≡ true
 fine-spacing-fits v low high rest = spacing-fits 7 v (omega arith) (omega arith) rest
 

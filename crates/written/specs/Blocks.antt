@@ -38,8 +38,8 @@ cornerPieces c = real (c .x) ∷ real (c .y) ∷ []
 abbrev pub sheetCells : Header → List ℤ → List ℤ
 sheetCells h grid = take (cellsOf h) grid
 
--- "the template with numeric fields rewritten, n set to the columns, extremes worked out, accuracy 0; text, bytes 169-528 and
--- 865-1024 stay", in the order of record A's table: by the extremes and the columns
+-- block 0, piece by piece in the order of record A's table: its numbers spelled anew, by the extremes and the columns, accuracy 0;
+-- its texts and the bytes 169-528 and 865-1024 as the template has them
 unfoldable pub piecesBy : Header → ℤ → ℤ → ℕ → List Piece
 piecesBy h least greatest columns =
     keeps 1 144

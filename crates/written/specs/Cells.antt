@@ -53,7 +53,7 @@ unfoldable pub upToLast : List ℤ → List ℤ
 upToLast [] = []
 upToLast (c ∷ cs) = cond (sameZ c void and isNone (upToLast cs)) [] (c ∷ upToLast cs)
 
--- "Each column is one profile from its first to its last filled row"; "an all-void column is one void post at row 0"
+-- "Each column is one profile": between its outermost filled rows; without any, a single void at row 0
 unfoldable pub firstRow : List ℤ → ℕ
 firstRow column = cond (isNone (upToLast column)) 0 (voidsBefore column)
 
