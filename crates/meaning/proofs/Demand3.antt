@@ -1,7 +1,8 @@
--- Demand 3, the front door. Everything here is said of any reader that keeps the promise of `deliver`, for any lent grid and any list
--- of deliveries: any numbers, any bytes of any length, session and grid handed back as last returned. Each theorem cites where it is shown.
+-- Demand 3, the front door. Everything here is said of calls of `load::deliver`, each of which keeps the two equations of its promise (paper,
+-- proof Contracts, reads them off the contract): any lent grid, and any list of deliveries, any numbers, any bytes of any length, session
+-- and grid handed back as last returned. Each theorem cites where it is shown.
 use mathlib.Core.List.{List, [], _++_, _∷_}
-use mathlib.Core.Path.{_≡_, sym, _∙_, ap, refl}
+use mathlib.Core.Path.{_≡_, sym, _∙_, ap}
 use Prim.Native.Nat.{ℕ, _≤_, _<_}
 use mathlib.Core.Bool.{false, true}
 use native.Mathlib.Omega.{arith}
@@ -9,53 +10,69 @@ use borrow.Author.Tests.{ne-eqb}
 use lib.Dec.{eqb}
 use mathlib.Core.Logic.{_↔_}
 use lib.IntN.{ℤ}
-use lib.ListN.{length, take, getD}
+use lib.ListN.{length, take, drop, getD}
 use Rattle.ground.specs.Blocks.{blocksIn}
-use Rattle.laws.proofs.Answers.{one-answer}
 use Rattle.session.specs.declared.Session.{Session}
+use Rattle.session.specs.Session.{fresh}
 use Rattle.ground.specs.Posts.{void, filledIn}
-use Rattle.delivery.specs.declared.Answer.the-variants.{Taken, Held}
+use Rattle.delivery.specs.declared.Answer.the-variants.{Taken}
 use Rattle.delivery.specs.Deliver.{Lent, lend, roomOf, deliverOf, lentAfter}
 use Rattle.meaning.specs.Text.{profilesIn, cellsIn, postsIn, heightIn, allHeights, cellOfPost}
 use Rattle.meaning.specs.Means.{begunSession, sessionOf, gridOf}
 use Rattle.meaning.specs.Rules.{firstBreach}
-use Rattle.meaning.specs.Deliveries.{Reader, Keeps, Delivery, Desk, Due, Disturbed, refusedBy, answerTo, atFirst, answered, after, afterAll, takenText, twice}
-use Rattle.meaning.specs.PaperSheet.{paperLent, paperSheet, paperDesk, allAnswered}
+use Rattle.meaning.specs.Deliveries.{Delivery, Call, Promised, Fresh, sessionAfter, gridAfter, takenText, deliveries, answers, twice, Disturbed, Due, Holds, refusedBy, answerTo}
+use Rattle.meaning.specs.PaperSheet.{paperLent, paperSheet, paperSession, paperCells}
+use Rattle.meaning.proofs.Desks.{Desk, desk, atFirst, afterAll, call-desk, call-answer, calls-desk, calls-text}
 use Rattle.meaning.proofs.OneDelivery.{Stands, stands-first, answer-told, not-taken-nothing as nothing-changed}
 use Rattle.meaning.proofs.Runs.{stands-after, taken-due, due-taken, late-not-taken, next-answer, twice-once, disturbed-same}
-use Rattle.meaning.proofs.ShutOut.{isRefused}
+use Rattle.meaning.proofs.ShutOut.{isRefused, isHeld, allAre}
 use Rattle.meaning.proofs.EachPost as Cells
 use Rattle.meaning.proofs.ShutOut as Shut
-use Rattle.meaning.proofs.Witness as Witness
+
+-- what a desk holds, taken apart
+same-desks : {s t : Session} {g f : List ℤ} → desk s (lend g) ≡ desk t (lend f) → (s ≡ t) × (g ≡ f)
+same-desks e = (ap (λ (k : Desk). k .session) e, ap (λ (k : Desk). k .lent .grid) e)
 
 begun-means : (text : List ℕ) → 1 ≤ blocksIn text → sessionOf text ≡ begunSession text
 begun-means text some = let e : eqb (blocksIn text) 0 ≡ false = ne-eqb (blocksIn text) 0 (λ z. omega (arith, z, some)) in rw e
 
-module _ (r : Reader) (keeps : Keeps r) (lent : List ℤ) (ds : List Delivery) where
-  -- the desk after the deliveries, and the taken blocks joined as one text
-  abbrev desk : Desk
-  desk = afterAll r (atFirst lent) ds
+calls-stand : (lent : List ℤ) (cs : List Call) → Fresh lent cs → Stands (takenText cs) lent (desk (sessionAfter fresh cs) (lend (gridAfter lent cs)))
+calls-stand lent cs kept = rw (calls-text kept, calls-desk kept) (stands-after lent (deliveries cs))
+
+module _ (lent : List ℤ) (cs : List Call) (kept : Fresh lent cs) where
+  -- session and grid after the calls, and the taken blocks joined as one text
+  abbrev session : Session
+  session = sessionAfter fresh cs
+
+  abbrev grid : List ℤ
+  grid = gridAfter lent cs
 
   abbrev text : List ℕ
-  text = takenText r (atFirst lent) ds
+  text = takenText cs
 
-  stands : Stands text lent desk
-  stands = stands-after r keeps lent ds
+  stands : Stands text lent (desk session (lend grid))
+  stands = calls-stand lent cs kept
+
+  -- the next call, handed session and grid
+  abbrev pub Next : Call → Type 0
+  Next c = Promised session (lend grid) c
+
+  told : (c : Call) → Next c → c .returned .answer ≡ answerTo text (c .sent .number) (c .sent .bytes) (roomOf (lend lent))
+  told c p = call-answer p ∙ answer-told text lent (desk session (lend grid)) stands (c .sent)
 
   -- ---- 1. what is taken, and what is then on the desk
 
   -- a delivery is taken exactly when its number is the next one, the taken blocks with it break no rule, and the grid is long enough
-  pub taken-exactly : (d : Delivery) → (answered r desk d ≡ Taken) ↔ Due text lent d
-  taken-exactly d =
-      let told = answer-told r keeps text lent desk stands d in
-      (λ e. taken-due text lent (stands .good) d (sym told ∙ e), λ due. told ∙ due-taken text lent (stands .good) d due)
+  pub taken-exactly : (c : Call) → Next c → (c .returned .answer ≡ Taken) ↔ Due text lent (c .sent)
+  taken-exactly c p =
+      (λ e. taken-due text lent (stands .good) (c .sent) (sym (told c p) ∙ e), λ due. told c p ∙ due-taken text lent (stands .good) (c .sent) due)
 
   -- the session is what the taken blocks mean
-  pub session-means : desk .session ≡ sessionOf text
+  pub session-means : session ≡ sessionOf text
   session-means = stands .session-is
 
   -- the grid is what the taken blocks mean
-  pub grid-means : desk .lent .grid ≡ gridOf text lent
+  pub grid-means : grid ≡ gridOf text lent
   grid-means = stands .grid-is
 
   -- the taken blocks break no rule themselves, and the grid is long enough for their sheet
@@ -64,16 +81,26 @@ module _ (r : Reader) (keeps : Keeps r) (lent : List ℤ) (ds : List Delivery) w
 
   -- ---- 2. every post in one cell
 
+  -- no cell is added or lost
+  pub as-many-cells : length grid ≡ length lent
+  as-many-cells = ap length grid-means ∙ Cells.length-kept text lent (stands .good .room)
+
+  -- a cell of the sheet is one of the grid
+  inside : 1 ≤ blocksIn text → (c : ℕ) → c < cellsIn text → c < length grid
+  inside some c lt = omega (arith, lt, stands .good .room some, as-many-cells)
+
   -- every post of the taken blocks stands in a cell of the sheet
   pub post-in-sheet : 1 ≤ blocksIn text → (j i : ℕ) → j < profilesIn text → i < postsIn text j → cellOfPost text j i < cellsIn text
   post-in-sheet some = Cells.post-in-sheet text (stands .good .kept some)
 
   -- that cell holds its height
   pub post-in-its-cell : 1 ≤ blocksIn text → (j i : ℕ) → j < profilesIn text → i < postsIn text j
-      → getD (desk .lent .grid) (cellOfPost text j i) void ≡ heightIn text j i
-  post-in-its-cell some j i p q =
-      ap (λ (g : List ℤ). getD g (cellOfPost text j i) void) grid-means
-      ∙ Cells.post-in-its-cell text (stands .good .kept some) lent j i p q
+      → Holds grid (cellOfPost text j i) (heightIn text j i)
+  post-in-its-cell some j i p q = (
+    inside some (cellOfPost text j i) (post-in-sheet some j i p q),
+    ap (λ (g : List ℤ). getD g (cellOfPost text j i) void) grid-means
+        ∙ Cells.post-in-its-cell text (stands .good .kept some) lent j i p q,
+  )
 
   -- no two posts stand in the same cell
   pub no-two-posts : 1 ≤ blocksIn text → (j i j′ i′ : ℕ) → j < profilesIn text → i < postsIn text j → j′ < profilesIn text
@@ -82,121 +109,110 @@ module _ (r : Reader) (keeps : Keeps r) (lent : List ℤ) (ds : List Delivery) w
 
   -- every other cell of the sheet is void
   pub other-cells-void : 1 ≤ blocksIn text → (c : ℕ) → c < cellsIn text
-      → ((j i : ℕ) → j < profilesIn text → i < postsIn text j → cellOfPost text j i ≡ c → ⊥) → getD (desk .lent .grid) c void ≡ void
-  other-cells-void some c lt none =
-      ap (λ (g : List ℤ). getD g c void) grid-means
-      ∙ Cells.other-cells-void text (stands .good .kept some) lent c some lt none
+      → ((j i : ℕ) → j < profilesIn text → i < postsIn text j → cellOfPost text j i ≡ c → ⊥) → Holds grid c void
+  other-cells-void some c lt none = (
+    inside some c lt,
+    ap (λ (g : List ℤ). getD g c void) grid-means ∙ Cells.other-cells-void text (stands .good .kept some) lent c some lt none,
+  )
 
-  -- cells past the sheet are as lent, and no cell is added or lost
-  pub past-the-sheet : 1 ≤ blocksIn text → (c : ℕ) → cellsIn text ≤ c → getD (desk .lent .grid) c void ≡ getD lent c void
-  past-the-sheet some c le = ap (λ (g : List ℤ). getD g c void) grid-means ∙ Cells.past-the-sheet text lent c le
-
-  pub as-many-cells : 1 ≤ blocksIn text → length (desk .lent .grid) ≡ length lent
-  as-many-cells some = ap length grid-means ∙ Cells.grid-length text lent (stands .good .room some)
+  -- cells past the sheet are as lent
+  pub past-the-sheet : 1 ≤ blocksIn text → drop (cellsIn text) grid ≡ drop (cellsIn text) lent
+  past-the-sheet some = ap (drop (cellsIn text)) grid-means ∙ Cells.past-the-sheet text lent some
 
   -- as many filled cells as filled posts
-  pub filled-as-posts : 1 ≤ blocksIn text → filledIn (take (cellsIn text) (desk .lent .grid)) ≡ filledIn (allHeights text)
+  pub filled-as-posts : 1 ≤ blocksIn text → filledIn (take (cellsIn text) grid) ≡ filledIn (allHeights text)
   filled-as-posts some =
       ap (λ (g : List ℤ). filledIn (take (cellsIn text) g)) grid-means
       ∙ Cells.filled-as-posts text (stands .good .kept some) lent some
 
   -- and the session's counts are the text's: blocks, posts and filled posts
   pub counts-are : 1 ≤ blocksIn text
-      → (desk .session .taken ≡ blocksIn text) × (desk .session .posts ≡ length (allHeights text)) × (desk .session .filled ≡ filledIn (allHeights text))
+      → (session .taken ≡ blocksIn text) × (session .posts ≡ length (allHeights text)) × (session .filled ≡ filledIn (allHeights text))
   counts-are some =
       let e = session-means ∙ begun-means text some in
       (ap (λ (s : Session). s .taken) e, ap (λ (s : Session). s .posts) e, ap (λ (s : Session). s .filled) e)
 
   -- until block 0 is taken the grid is as lent
-  pub lent-until-block-0 : blocksIn text ≡ 0 → desk .lent .grid ≡ lent
+  pub lent-until-block-0 : blocksIn text ≡ 0 → grid ≡ lent
   lent-until-block-0 none = grid-means ∙ Cells.lent-until-block-0 text lent none
 
   -- ---- 3. order and repetition do not matter
 
-  -- two lists of deliveries with the same taken blocks leave the same session and grid
-  pub same-taken-blocks : (es : List Delivery) → takenText r (atFirst lent) es ≡ text → afterAll r (atFirst lent) es ≡ desk
-  same-taken-blocks es e =
-      let other = stands-after r keeps lent es in
-      λ i.
-      record {
-        session = (other .session-is ∙ ap sessionOf e ∙ sym session-means) i;
-        lent = lend ((other .grid-is ∙ ap (λ (t : List ℕ). gridOf t lent) e ∙ sym grid-means) i);
-      }
+  -- other calls with the same taken blocks leave the same session and grid
+  pub same-taken-blocks : (es : List Call) → Fresh lent es → takenText es ≡ text → (sessionAfter fresh es ≡ session) × (gridAfter lent es ≡ grid)
+  same-taken-blocks es other e =
+      let there = calls-stand lent es other in
+      (there .session-is ∙ ap sessionOf e ∙ sym session-means, there .grid-is ∙ ap (λ (t : List ℕ). gridOf t lent) e ∙ sym grid-means)
 
   -- every delivery of any list twice in a row ends as once
-  pub twice-as-once : afterAll r (atFirst lent) (twice ds) ≡ desk
-  twice-as-once = twice-once r keeps [] lent (atFirst lent) (stands-first lent) ds
+  pub twice-as-once : (es : List Call) → Fresh lent es → deliveries es ≡ twice (deliveries cs)
+      → (sessionAfter fresh es ≡ session) × (gridAfter lent es ≡ grid)
+  twice-as-once es other e =
+      same-desks (calls-desk other ∙ ap (afterAll (atFirst lent)) e ∙ twice-once [] lent (atFirst lent) (stands-first lent) (deliveries cs) ∙ sym (calls-desk kept))
 
   -- deliveries among them that are not taken, early, held or damaged, as many as there be, end as though they had not come
-  pub damage-as-none : (es : List Delivery) → Disturbed r (atFirst lent) es ds → afterAll r (atFirst lent) es ≡ desk
-  damage-as-none es d = disturbed-same r keeps d
+  pub damage-as-none : (es : List Call) → Fresh lent es → Disturbed es (deliveries cs)
+      → (sessionAfter fresh es ≡ session) × (gridAfter lent es ≡ grid)
+  damage-as-none es other d = same-desks (calls-desk other ∙ disturbed-same other d ∙ sym (calls-desk kept))
 
   -- a block sent again, however late and whatever its bytes, changes nothing: its number is below the blocks taken
-  pub again-changes-nothing : (d : Delivery) → d .number < blocksIn text → after r desk d ≡ desk
-  again-changes-nothing d lt =
-      nothing-changed r keeps desk d
-      (λ t. late-not-taken text lent (stands .good) d lt (sym (answer-told r keeps text lent desk stands d) ∙ t))
+  pub again-changes-nothing : (c : Call) → Next c → c .sent .number < blocksIn text → (c .returned .session ≡ session) × (c .left .grid ≡ grid)
+  again-changes-nothing c p lt =
+      same-desks
+      (call-desk p
+      ∙ nothing-changed (desk session (lend grid)) (c .sent)
+      (λ t. late-not-taken text lent (stands .good) (c .sent) lt (sym (answer-told text lent (desk session (lend grid)) stands (c .sent)) ∙ t)))
 
   -- ---- 4. refusals are right
 
   -- every answer, with kind, block and byte, is the one that document 01's table tells of the taken blocks
-  pub answered-as-told : (d : Delivery) → answered r desk d ≡ answerTo text (d .number) (d .bytes) (roomOf (lend lent))
-  answered-as-told d = answer-told r keeps text lent desk stands d
+  pub answered-as-told : (c : Call) → Next c → c .returned .answer ≡ answerTo text (c .sent .number) (c .sent .bytes) (roomOf (lend lent))
+  answered-as-told = told
 
   -- the next block, with a grid long enough, is refused with the first rule that the text with it breaks, or taken
-  pub first-fault-said : (d : Delivery) → length (d .bytes) ≡ 1024 → d .number ≡ blocksIn text → cellsIn (text ++ d .bytes) ≤ length lent
-      → answered r desk d ≡ refusedBy (firstBreach (text ++ d .bytes)) Taken
-  first-fault-said d one next room = answered-as-told d ∙ next-answer text lent (stands .good) d one next room
+  pub first-fault-said : (c : Call) → Next c → length (c .sent .bytes) ≡ 1024 → c .sent .number ≡ blocksIn text
+      → cellsIn (text ++ c .sent .bytes) ≤ length lent → c .returned .answer ≡ refusedBy (firstBreach (text ++ c .sent .bytes)) Taken
+  first-fault-said c p one next room = told c p ∙ next-answer text lent (stands .good) (c .sent) one next room
 
--- ---- 5. shut out: readers that document 01 names, by the paper's own sheet, computed
+  -- whatever is not taken changes nothing
+  pub not-taken-nothing : (c : Call) → Next c → (c .returned .answer ≡ Taken → ⊥) → (c .returned .session ≡ session) × (c .left .grid ≡ grid)
+  not-taken-nothing c p not =
+      same-desks (call-desk p ∙ nothing-changed (desk session (lend grid)) (c .sent) (λ t. not (call-answer p ∙ t)))
 
-module _ (r : Reader) (keeps : Keeps r) where
-  -- the paper's three blocks are taken, in any reader's hands
-  pub paper-taken : allAnswered r (atFirst paperLent) paperSheet ≡ Taken ∷ (Taken ∷ (Taken ∷ []))
-  paper-taken = Witness.paper-answers r keeps
+-- ---- 5. shut out: readers that document 01 names, by calls that deliver the paper's own sheet
 
-  -- and leave the paper's session and cells
-  pub paper-desk : afterAll r (atFirst paperLent) paperSheet ≡ paperDesk
-  paper-desk = Witness.paper-desk r keeps
+module _ (cs : List Call) (kept : Fresh paperLent cs) (paper : deliveries cs ≡ paperSheet) where
+  -- the paper's three blocks are taken
+  pub paper-taken : answers cs ≡ Taken ∷ (Taken ∷ (Taken ∷ []))
+  paper-taken = Shut.all-taken cs kept paper
 
-  -- none refuses everything
-  pub not-all-refused : ((s : Session) (n : ℕ) (b : List ℕ) (g : Lent) → isRefused (r .deliver s n b g .answer) ≡ true) → ⊥
-  not-all-refused = Shut.not-all-refused r keeps
+  -- and leave the paper's session and cells: 5 posts, 4 filled, 3 blocks, and no count invented (for every list of deliveries: `counts-are`)
+  pub paper-session : sessionAfter fresh cs ≡ paperSession
+  paper-session = Shut.session-is cs kept paper
 
-  -- none answers held to everything
-  pub not-all-held : ((s : Session) (n : ℕ) (b : List ℕ) (g : Lent) → r .deliver s n b g .answer ≡ Held) → ⊥
-  not-all-held = Shut.not-all-held r keeps
+  pub paper-cells : gridAfter paperLent cs ≡ paperCells
+  paper-cells = Shut.cells-are cs kept paper
 
-  -- none takes blocks and places nothing
-  pub places-what-it-takes : ((s : Session) (n : ℕ) (b : List ℕ) (g : Lent) → 1 ≤ n → r .deliver s n b g .answer ≡ Taken → r .fill s n b g ≡ g) → ⊥
-  places-what-it-takes = Shut.places-what-it-takes r keeps
+  -- not all are refused, nor all held
+  pub not-all-refused : allAre isRefused (answers cs) ≡ true → ⊥
+  not-all-refused = Shut.not-all-refused cs kept paper
 
-  -- none works on the first block and idles afterwards
-  pub works-after-first : ((s : Session) (n : ℕ) (b : List ℕ) (g : Lent) → 1 ≤ n → (r .deliver s n b g .session ≡ s) × (r .fill s n b g ≡ g)) → ⊥
-  works-after-first = Shut.works-after-first r keeps
+  pub not-all-held : allAre isHeld (answers cs) ≡ true → ⊥
+  not-all-held = Shut.not-all-held cs kept paper
 
-  -- none invents counts: the paper's sheet has 5 posts, 4 filled, 3 blocks (for every list of deliveries: `counts-are`)
-  pub no-other-posts : (posts : ℕ) → afterAll r (atFirst paperLent) paperSheet .session .posts ≡ posts → posts ≡ 5
-  no-other-posts = Shut.no-other-posts r keeps
+module _ (c : Call) (cs : List Call) (kept : Fresh paperLent (c ∷ cs)) (paper : deliveries (c ∷ cs) ≡ paperSheet) where
+  -- behind block 0 blocks are not taken without placing anything
+  pub places-what-it-takes : gridAfter (c .left .grid) cs ≡ c .left .grid → ⊥
+  places-what-it-takes = Shut.places-what-it-takes c cs kept paper
 
-  pub no-other-filled : (filled : ℕ) → afterAll r (atFirst paperLent) paperSheet .session .filled ≡ filled → filled ≡ 4
-  no-other-filled = Shut.no-other-filled r keeps
+  -- nor does the session stand still
+  pub works-after-first : sessionAfter (c .returned .session) cs ≡ c .returned .session → ⊥
+  works-after-first = Shut.works-after-first c cs kept paper
 
-  pub no-other-taken : (taken : ℕ) → afterAll r (atFirst paperLent) paperSheet .session .taken ≡ taken → taken ≡ 3
-  no-other-taken = Shut.no-other-taken r keeps
+-- ---- 6. no second answer (for every public function: proof OneAnswer of its room)
 
--- ---- 6. no second answer (for the other public functions: paper, proof NoSecondAnswer)
-
--- two readers that keep the promise answer alike and leave the same cells, whatever they are given
-pub one-reader : (r r′ : Reader) → Keeps r → Keeps r′ → (s : Session) (number : ℕ) (block : List ℕ) (lent : Lent)
-    → (r .deliver s number block lent ≡ r′ .deliver s number block lent) × (r .fill s number block lent ≡ r′ .fill s number block lent)
-one-reader r r′ k k′ s number block lent =
-    (one-answer (k .answers s number block lent) (k′ .answers s number block lent), one-answer (k .fills s number block lent) (k′ .fills s number block lent))
-
--- `load::deliver` is such a reader: its promise is these two equations for all it can be given
-pub ours : Reader
-ours = record { deliver = deliverOf; fill = lentAfter }
-
-pub ours-keeps : Keeps ours
-unfolding ours
-ours-keeps = record { answers = λ s number block lent. refl; fills = λ s number block lent. refl }
+-- two calls that are given the same return the same and leave the same cells
+pub one-answer-each : (s : Session) (lent : Lent) (c e : Call) → Promised s lent c → Promised s lent e → c .sent ≡ e .sent
+    → (c .returned ≡ e .returned) × (c .left .grid ≡ e .left .grid)
+one-answer-each s lent c e p q same =
+    (p .answers ∙ ap (λ (d : Delivery). deliverOf s (d .number) (d .bytes) lent) same ∙ sym (q .answers), p .fills ∙ ap (λ (d : Delivery). lentAfter s (d .number) (d .bytes) lent .grid) same ∙ sym (q .fills))

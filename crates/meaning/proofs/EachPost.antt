@@ -6,10 +6,10 @@ use native.Mathlib.Nat.{add-zero, div-add-mod', suc-mul}
 use native.Mathlib.Omega.{arith}
 use lib.ListN.{getD, length, drop, length-map, length-append, length-drop, List·getD-append, take}
 use mathlib.Core.Bool.{true, cond, false}
-use borrow.Author.Tests.{leb-true, ltb-true, le-leb, lt-ltb, ltb-false, ne-eqb, eq-eqb}
+use borrow.Author.Tests.{leb-true, ltb-true, le-leb, lt-ltb, ltb-false, ne-eqb, eq-eqb, eqb-false}
 use lib.Dec.{leb, ltb, eqb}
 use lib.IntN.{ℤ}
-use lib.Seq.{getD-append-add, getD-drop, take-at}
+use lib.Seq.{getD-append-add, getD-drop, take-at, drop-at}
 use lib.Arith.{digits-lt, digits-div, digits-mod}
 use Rattle.ground.specs.Blocks.{blocksIn}
 use Rattle.laws.specs.Lists.{from, below, joined}
@@ -103,8 +103,14 @@ module _ (text : List ℕ) (lent : List ℤ) where
   lent-until-block-0 h = rw (eq-eqb (blocksIn text) 0 h)
 
   -- The cells past the sheet are as lent.
-  pub past-the-sheet : (c : ℕ) → cellsIn text ≤ c → getD (gridOf text lent) c void ≡ getD lent c void
-  past-the-sheet c h =
+  pub past-the-sheet : 1 ≤ blocksIn text → drop (cellsIn text) (gridOf text lent) ≡ drop (cellsIn text) lent
+  past-the-sheet some =
+      ap (drop (cellsIn text)) (begun-grid some)
+      ∙ drop-at (map (cellIn text) (below (cellsIn text))) (drop (cellsIn text) lent) (cellsIn text) sheet-length
+
+  -- one of them
+  pub past-cell : (c : ℕ) → cellsIn text ≤ c → getD (gridOf text lent) c void ≡ getD lent c void
+  past-cell c h =
       by-test (eqb (blocksIn text) 0) (λ e. rw e)
       (λ e.
       let sheet = map (cellIn text) (below (cellsIn text)) in
@@ -125,6 +131,12 @@ module _ (text : List ℕ) (lent : List ℤ) where
       let grid : gridOf text lent ≡ sheet ++ drop (cellsIn text) lent = rw e in
       let sum = length-append sheet (drop (cellsIn text) lent) in
       ap length grid ∙ (omega (arith, h, sum, sheet-length, length-drop (cellsIn text) lent)))
+
+  -- So long as the sheet, if there is one, has room in what is lent, no cell is added or lost.
+  pub length-kept : (1 ≤ blocksIn text → cellsIn text ≤ length lent) → length (gridOf text lent) ≡ length lent
+  length-kept room =
+      by-test (eqb (blocksIn text) 0) (λ e. rw e)
+      (λ e. grid-length (room (let n = eqb-false (blocksIn text) 0 e in omega (arith, n))))
 
 -- ---- posts and cells
 

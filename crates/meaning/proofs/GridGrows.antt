@@ -26,7 +26,7 @@ use Rattle.meaning.proofs.Starts.{start-order, start-from, none-yet}
 use Rattle.meaning.proofs.Joined.{Here, start-same, head-same, header-same, column-same, row-same, height-same, heights-whole, one-block-more, within-blocks, not-over, posts-after, newHeights, heights-grow}
 use Rattle.meaning.proofs.SessionGrows.{new-length}
 use Rattle.meaning.proofs.Placed.{placed-at}
-use Rattle.meaning.proofs.EachPost.{map-at, StandsFor, stands-for, value-void, value-of-post, begun-with, begun-grid, grid-cell, past-the-sheet, grid-length, post-in-sheet, post-in-its-cell}
+use Rattle.meaning.proofs.EachPost.{map-at, StandsFor, stands-for, value-void, value-of-post, begun-with, begun-grid, grid-cell, past-cell, grid-length, post-in-sheet, post-in-its-cell}
 
 heights-many : (text : List ℕ) (j : ℕ) → length (heightsIn text j) ≡ postsIn text j
 heights-many text j = length-map (below (postsIn text j)) (heightIn text j) ∙ from-length 0 (postsIn text j)
@@ -276,4 +276,4 @@ module _ (text more block : List ℕ) (k : ℕ) (x : Extends text more block k) 
           ∙ sym (grid-cell more lent q (omega (arith, x .one-more)) lt))
           (λ e.
           let past = ltb-false q (cellsIn more) e in
-          past-the-sheet text lent q (omega (arith, past, same-cells some)) ∙ sym (past-the-sheet more lent q past))
+          past-cell text lent q (omega (arith, past, same-cells some)) ∙ sym (past-cell more lent q past))

@@ -10,6 +10,7 @@ pub mod Verdicts
 pub mod LaterBlocks
 pub mod RulesGrow
 pub mod LaterVerdict
+pub mod Desks
 pub mod OneDelivery
 pub mod Runs
 pub mod Witness

@@ -23,7 +23,7 @@ use Rattle.session.specs.Session.{sound, noProfile, begun, complete}
 use Rattle.session.specs.declared.Session.{Session}
 use Rattle.ground.specs.Posts.{void, filledIn}
 use Rattle.ground.specs.Extremes.{filledOnly, leastOf, greatestOf}
-use Rattle.delivery.specs.Deliver.{Verdict, Lent, Room, lend, roomOf, tooShort, answerOf, lentBy, again, wrong, begins, fills, beginning, later, nextCell, verdictOf}
+use Rattle.delivery.specs.Deliver.{Verdict, Room, lend, roomOf, tooShort, answerOf, lentBy, again, wrong, begins, fills, beginning, later, nextCell, verdictOf, deliverOf}
 use Rattle.delivery.specs.declared.Answer.{Answer}
 use Rattle.delivery.specs.declared.Answer.the-variants.{Taken, Held, Refused}
 use Rattle.delivery.specs.declared.Delivered.{Delivered}
@@ -31,13 +31,14 @@ use Rattle.delivery.proofs.SoundOut.{sound-out}
 use Rattle.meaning.specs.Text.{cellsIn, headerIn, profilesIn, rowsIn, startOf, postsIn, heightsIn, allHeights, columnIn, rowIn, cellOfPost}
 use Rattle.meaning.specs.Rules.{firstBreach, Breach, isComplete, inBlock, endOf}
 use Rattle.meaning.specs.Means.{sessionOf, gridOf, closedIn, isOpen, begunSession}
-use Rattle.meaning.specs.Deliveries.{bytesIf, refusedBy, answerTo, Desk, atFirst, Reader, Keeps, Delivery, answered, after}
+use Rattle.meaning.specs.Deliveries.{bytesIf, refusedBy, answerTo, Delivery}
+use Rattle.meaning.proofs.Desks.{Desk, atFirst, answered, after}
 use Rattle.meaning.proofs.Starts.{next-start, start-from, none-yet, closed-is}
 use Rattle.meaning.proofs.Joined.{header-same, same-start, newHeights}
 use Rattle.meaning.proofs.SessionGrows.{readSoFar}
 use Rattle.meaning.proofs.Verdicts.{byBreach}
 use Rattle.meaning.proofs.Placed.{placed-at}
-use Rattle.meaning.proofs.EachPost.{grid-length}
+use Rattle.meaning.proofs.EachPost.{length-kept}
 use Rattle.meaning.proofs.RulesGrow.{first-due-broken, first-due-kept}
 use Rattle.meaning.proofs.GridGrows.{grid-grows, grid-idle, grid-begun}
 use Rattle.meaning.proofs.LaterVerdict.{profile-verdict, finish-verdict, here-now, all-now, complete-is, behind}
@@ -240,11 +241,6 @@ module _ (text : List ℕ) (lent : List ℤ) (block : List ℕ) where
 
   -- ---- any delivery
 
-  length-kept : Good text lent → length (gridOf text lent) ≡ length lent
-  length-kept good =
-      by-test (eqb (blocksIn text) 0) (λ e. rw e)
-      (λ e. grid-length text lent (good .room (let n = eqb-false (blocksIn text) 0 e in omega (arith, n))))
-
   taken-is : sessionOf text .taken ≡ blocksIn text
   taken-is = by-test (eqb (blocksIn text) 0) (λ e. rw e (sym (eqb-true (blocksIn text) 0 e))) (λ e. rw e)
 
@@ -334,7 +330,7 @@ stands-first lent =
       grid-is = refl;
     }
 
-module _ (r : Reader) (keeps : Keeps r) (text : List ℕ) (lent : List ℤ) (k : Desk) (at : Stands text lent k) (d : Delivery) where
+module _ (text : List ℕ) (lent : List ℤ) (k : Desk) (at : Stands text lent k) (d : Delivery) where
   fit : Fits text lent (d .bytes) (verdictOf (sessionOf text) (d .number) (d .bytes) (roomOf (lend lent))) (answerTo text (d .number) (d .bytes) (roomOf (lend lent)))
   fit = verdict-fits text lent (d .bytes) (at .good) (d .number)
 
@@ -342,23 +338,23 @@ module _ (r : Reader) (keeps : Keeps r) (text : List ℕ) (lent : List ℤ) (k :
       ≡ verdictOf (sessionOf text) (d .number) (d .bytes) (roomOf (lend lent))
   same-verdict =
       ap₂ (λ (s : Session) (n : ℕ). verdictOf s (d .number) (d .bytes) (record { cells = n })) (at .session-is)
-      (ap length (at .grid-is) ∙ length-kept text lent (d .bytes) (at .good))
+      (ap length (at .grid-is) ∙ length-kept text lent (at .good .room))
 
-  told : r .deliver (k .session) (d .number) (d .bytes) (k .lent)
+  told : deliverOf (k .session) (d .number) (d .bytes) (k .lent)
       ≡ answerOf (sessionOf text) (verdictOf (sessionOf text) (d .number) (d .bytes) (roomOf (lend lent)))
-  told = keeps .answers (k .session) (d .number) (d .bytes) (k .lent) ∙ ap₂ answerOf (at .session-is) same-verdict
+  told = ap₂ answerOf (at .session-is) same-verdict
 
-  pub answer-told : answered r k d ≡ answerTo text (d .number) (d .bytes) (roomOf (lend lent))
+  pub answer-told : answered k d ≡ answerTo text (d .number) (d .bytes) (roomOf (lend lent))
   answer-told = ap (λ (w : Delivered). w .answer) told ∙ fit .answer-is
 
-  session-told : after r k d .session ≡ sessionOf (text ++ bytesIf (answered r k d) (d .bytes))
+  session-told : after k d .session ≡ sessionOf (text ++ bytesIf (answered k d) (d .bytes))
   session-told =
       ap (λ (w : Delivered). w .session) told ∙ fit .session-is
       ∙ ap (λ (a : Answer). sessionOf (text ++ bytesIf a (d .bytes))) (sym answer-told)
 
-  pub stands-next : Stands (text ++ bytesIf (answered r k d) (d .bytes)) lent (after r k d)
+  pub stands-next : Stands (text ++ bytesIf (answered k d) (d .bytes)) lent (after k d)
   stands-next =
-      let e : answerTo text (d .number) (d .bytes) (roomOf (lend lent)) ≡ answered r k d = sym answer-told in
+      let e : answerTo text (d .number) (d .bytes) (roomOf (lend lent)) ≡ answered k d = sym answer-told in
       record {
         good =
             record {
@@ -367,29 +363,22 @@ module _ (r : Reader) (keeps : Keeps r) (text : List ℕ) (lent : List ℤ) (k :
               room = rw (← e) (fit .room-is);
               sound-is =
                   ap sound (sym session-told)
-                  ∙ ap (λ (w : Delivered). sound (w .session)) (keeps .answers (k .session) (d .number) (d .bytes) (k .lent))
                   ∙ sound-out (k .session) (d .number) (d .bytes) (k .lent) (ap sound (at .session-is) ∙ at .good .sound-is);
             };
         session-is = session-told;
         grid-is =
-            ap (λ (l : Lent). l .grid) (keeps .fills (k .session) (d .number) (d .bytes) (k .lent))
-            ∙ ap₂ (λ (g : List ℤ) (v : Verdict). lentBy (lend g) v .grid) (at .grid-is) same-verdict
+            ap₂ (λ (g : List ℤ) (v : Verdict). lentBy (lend g) v .grid) (at .grid-is) same-verdict
             ∙ fit .grid-is
             ∙ ap (λ (a : Answer). gridOf (text ++ bytesIf a (d .bytes)) lent) e;
       }
 
 -- what is not taken changes nothing, whatever the desk
-pub not-taken-nothing : (r : Reader) → Keeps r → (k : Desk) (d : Delivery) → (answered r k d ≡ Taken → ⊥) → after r k d ≡ k
-not-taken-nothing r keeps k d not =
-    let v = verdictOf (k .session) (d .number) (d .bytes) (roomOf (k .lent)) in
-    let a = keeps .answers (k .session) (d .number) (d .bytes) (k .lent) in
-    (λ i. record { session = a i .session; lent = keeps .fills (k .session) (d .number) (d .bytes) (k .lent) i })
-    ∙ go v refl (λ e. not (ap (λ (w : Delivered). w .answer) a ∙ e))
+pub not-taken-nothing : (k : Desk) (d : Delivery) → (answered k d ≡ Taken → ⊥) → after k d ≡ k
+not-taken-nothing k d not = go (verdictOf (k .session) (d .number) (d .bytes) (roomOf (k .lent))) not
   where
-    go : (v : Verdict) → verdictOf (k .session) (d .number) (d .bytes) (roomOf (k .lent)) ≡ v
-        → (answerOf (k .session) v .answer ≡ Taken → ⊥)
+    go : (v : Verdict) → (answerOf (k .session) v .answer ≡ Taken → ⊥)
         → record { session = answerOf (k .session) v .session; lent = lentBy (k .lent) v } ≡ k
-    go again e n = refl
-    go (wrong kind block byte) e n = refl
-    go (begins h) e n = absurd (n refl)
-    go (fills s at hs) e n = absurd (n refl)
+    go again n = refl
+    go (wrong kind block byte) n = refl
+    go (begins h) n = absurd (n refl)
+    go (fills s at hs) n = absurd (n refl)

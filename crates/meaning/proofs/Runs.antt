@@ -14,10 +14,12 @@ use Rattle.laws.proofs.Tests.{clash, by-test}
 use Rattle.laws.proofs.Lists.{append-nil, append-brackets}
 use Rattle.delivery.specs.declared.Answer.{Answer}
 use Rattle.delivery.specs.declared.Answer.the-variants.{Taken, Held, Refused}
-use Rattle.delivery.specs.Deliver.{lend, roomOf}
+use Rattle.delivery.specs.Deliver.{Lent, lend, roomOf}
 use Rattle.meaning.specs.Text.{cellsIn}
 use Rattle.meaning.specs.Rules.{Breach, breach, firstBreach, isComplete}
-use Rattle.meaning.specs.Deliveries.{Delivery, Due, refusedBy, answerTo, Reader, Keeps, Desk, Disturbed, ended, sent, disturbed, atFirst, answered, after, afterAll, bytesIf, takenText, twice}
+use Rattle.session.specs.declared.Session.{Session}
+use Rattle.meaning.specs.Deliveries.{Delivery, Due, refusedBy, answerTo, Call, Calls, nobody, called, deliveries, Disturbed, ended, sent, disturbed, bytesIf, twice}
+use Rattle.meaning.proofs.Desks.{Desk, desk, atFirst, answered, after, afterAll, textAfter, call-desk, call-answer}
 use Rattle.meaning.proofs.LaterVerdict.{complete-breach, all-now, incomplete}
 use Rattle.meaning.proofs.OneDelivery.{Good, Stands, stands-first, stands-next, answer-told, not-taken-nothing}
 
@@ -172,52 +174,57 @@ module _ (text : List ℕ) (lent : List ℤ) (good : Good text lent) (d : Delive
 
 -- ---- lists of deliveries
 
-module _ (r : Reader) (keeps : Keeps r) where
-  pub stands-all : (text : List ℕ) (lent : List ℤ) (k : Desk) → Stands text lent k → (ds : List Delivery)
-      → Stands (text ++ takenText r k ds) lent (afterAll r k ds)
-  stands-all text lent k at [] = rw (append-nil text) at
-  stands-all text lent k at (d ∷ ds) =
-      let bytes = bytesIf (answered r k d) (d .bytes) in
-      rw (← append-brackets text bytes (takenText r (after r k d) ds))
-      (stands-all (text ++ bytes) lent (after r k d) (stands-next r keeps text lent k at d) ds)
+pub stands-all : (text : List ℕ) (lent : List ℤ) (k : Desk) → Stands text lent k → (ds : List Delivery)
+    → Stands (text ++ textAfter k ds) lent (afterAll k ds)
+stands-all text lent k at [] = rw (append-nil text) at
+stands-all text lent k at (d ∷ ds) =
+    let bytes = bytesIf (answered k d) (d .bytes) in
+    rw (← append-brackets text bytes (textAfter (after k d) ds))
+    (stands-all (text ++ bytes) lent (after k d) (stands-next text lent k at d) ds)
 
-  pub stands-after : (lent : List ℤ) (ds : List Delivery) → Stands (takenText r (atFirst lent) ds) lent (afterAll r (atFirst lent) ds)
-  stands-after lent ds = stands-all [] lent (atFirst lent) (stands-first lent) ds
+pub stands-after : (lent : List ℤ) (ds : List Delivery) → Stands (textAfter (atFirst lent) ds) lent (afterAll (atFirst lent) ds)
+stands-after lent ds = stands-all [] lent (atFirst lent) (stands-first lent) ds
 
-  pub after-append : (k : Desk) (ds es : List Delivery) → afterAll r k (ds ++ es) ≡ afterAll r (afterAll r k ds) es
-  after-append k [] es = refl
-  after-append k (d ∷ ds) es = after-append (after r k d) ds es
+pub after-append : (k : Desk) (ds es : List Delivery) → afterAll k (ds ++ es) ≡ afterAll (afterAll k ds) es
+after-append k [] es = refl
+after-append k (d ∷ ds) es = after-append (after k d) ds es
 
-  -- a block just taken is not taken again
-  pub second-nothing : (text : List ℕ) (lent : List ℤ) (k : Desk) → Stands text lent k → (d : Delivery)
-      → after r (after r k d) d ≡ after r k d
-  second-nothing text lent k at d = go (answered r k d) refl
-    where
-      go : (a : Answer) → answered r k d ≡ a → after r (after r k d) d ≡ after r k d
-      go Taken e =
-          let due = taken-due text lent (at .good) d (sym (answer-told r keeps text lent k at d) ∙ e) in
-          let more = text ++ bytesIf (answered r k d) (d .bytes) in
-          let then = stands-next r keeps text lent k at d in
-          let x = join-extends text (d .bytes) (blocksIn text) (at .good .whole) (due .block) in
-          let b : blocksIn more ≡ suc (blocksIn text) = ap (λ (w : Answer). blocksIn (text ++ bytesIf w (d .bytes))) e ∙ x .one-more in
-          not-taken-nothing r keeps (after r k d) d
-          (λ t.
-          late-not-taken more lent (then .good) d (omega (arith, b, due .next))
-          (sym (answer-told r keeps more lent (after r k d) then d) ∙ t))
-      go Held e =
-          let n = not-taken-nothing r keeps k d (λ t. not-held (sym e ∙ t)) in ap (λ (w : Desk). after r w d) n
-      go (Refused kind block byte) e =
-          let n = not-taken-nothing r keeps k d (λ t. not-refused kind block byte (sym e ∙ t)) in ap (λ (w : Desk). after r w d) n
+-- a block just taken is not taken again
+pub second-nothing : (text : List ℕ) (lent : List ℤ) (k : Desk) → Stands text lent k → (d : Delivery)
+    → after (after k d) d ≡ after k d
+second-nothing text lent k at d = go (answered k d) refl
+  where
+    go : (a : Answer) → answered k d ≡ a → after (after k d) d ≡ after k d
+    go Taken e =
+        let due = taken-due text lent (at .good) d (sym (answer-told text lent k at d) ∙ e) in
+        let more = text ++ bytesIf (answered k d) (d .bytes) in
+        let then = stands-next text lent k at d in
+        let x = join-extends text (d .bytes) (blocksIn text) (at .good .whole) (due .block) in
+        let b : blocksIn more ≡ suc (blocksIn text) = ap (λ (w : Answer). blocksIn (text ++ bytesIf w (d .bytes))) e ∙ x .one-more in
+        not-taken-nothing (after k d) d
+        (λ t.
+        late-not-taken more lent (then .good) d (omega (arith, b, due .next))
+        (sym (answer-told more lent (after k d) then d) ∙ t))
+    go Held e =
+        let n = not-taken-nothing k d (λ t. not-held (sym e ∙ t)) in ap (λ (w : Desk). after w d) n
+    go (Refused kind block byte) e =
+        let n = not-taken-nothing k d (λ t. not-refused kind block byte (sym e ∙ t)) in ap (λ (w : Desk). after w d) n
 
-  pub twice-once : (text : List ℕ) (lent : List ℤ) (k : Desk) → Stands text lent k → (ds : List Delivery)
-      → afterAll r k (twice ds) ≡ afterAll r k ds
-  twice-once text lent k at [] = refl
-  twice-once text lent k at (d ∷ ds) =
-      ap (λ (w : Desk). afterAll r w (twice ds)) (second-nothing text lent k at d)
-      ∙ twice-once (text ++ bytesIf (answered r k d) (d .bytes)) lent (after r k d) (stands-next r keeps text lent k at d) ds
+pub twice-once : (text : List ℕ) (lent : List ℤ) (k : Desk) → Stands text lent k → (ds : List Delivery)
+    → afterAll k (twice ds) ≡ afterAll k ds
+twice-once text lent k at [] = refl
+twice-once text lent k at (d ∷ ds) =
+    ap (λ (w : Desk). afterAll w (twice ds)) (second-nothing text lent k at d)
+    ∙ twice-once (text ++ bytesIf (answered k d) (d .bytes)) lent (after k d) (stands-next text lent k at d) ds
 
-  pub disturbed-same : {k : Desk} {es ds : List Delivery} → Disturbed r k es ds → afterAll r k es ≡ afterAll r k ds
-  disturbed-same ended = refl
-  disturbed-same (sent d rest) = disturbed-same rest
-  disturbed-same (disturbed {k} {es} {ds} d none rest) =
-      ap (λ (w : Desk). afterAll r w es) (not-taken-nothing r keeps k d none) ∙ disturbed-same rest
+pub disturbed-same : {s : Session} {lent : Lent} {es : List Call} {ds : List Delivery} → Calls s lent es → Disturbed es ds
+    → afterAll (desk s lent) (deliveries es) ≡ afterAll (desk s lent) ds
+disturbed-same nobody ended = refl
+disturbed-same (called p rest) (sent {c} {es} {ds} more) =
+    ap (λ (k : Desk). afterAll k (deliveries es)) (sym (call-desk p))
+    ∙ disturbed-same rest more
+    ∙ ap (λ (k : Desk). afterAll k ds) (call-desk p)
+disturbed-same (called {s} {lent} p rest) (disturbed {c} {es} {ds} none more) =
+    ap (λ (k : Desk). afterAll k (deliveries es)) (sym (call-desk p))
+    ∙ disturbed-same rest more
+    ∙ ap (λ (k : Desk). afterAll k ds) (call-desk p ∙ not-taken-nothing (desk s lent) (c .sent) (λ t. none (call-answer p ∙ t)))

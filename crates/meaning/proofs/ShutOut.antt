@@ -1,34 +1,37 @@
--- Document 01, "How much a promise says": no reader that it names keeps the promise of `deliver`. The paper's sheet, delivered,
--- shuts each of them out.
+-- Document 01, "How much a promise says": no reader that it names keeps the promise of `deliver`. Calls that deliver the paper's sheet
+-- shut each of them out.
 use mathlib.Core.Bool.{Bool, true, false}
 use mathlib.Core.List.{List, [], _∷_}
 use lib.IntN.{ℤ, pos}
 use lib.ListN.{getD}
 use lib.Dec.{eqb}
 use mathlib.Core.Path.{_≡_, sym, _∙_, ap}
-use Prim.Native.Nat.{ℕ, _≤_}
-use native.Mathlib.Nat.{le-refl}
-use Rattle.laws.specs.Sign.{sameZ}
+use Rattle.laws.specs.Sign.{sameZ, _and_}
 use Rattle.laws.proofs.Tests.{clash}
 use Rattle.session.specs.declared.Session.{Session}
 use Rattle.session.specs.Session.{fresh}
 use Rattle.ground.specs.Posts.{void}
 use Rattle.delivery.specs.declared.Answer.{Answer}
 use Rattle.delivery.specs.declared.Answer.the-variants.{Taken, Held, Refused}
-use Rattle.delivery.specs.Deliver.{Lent, lend}
-use Rattle.meaning.specs.Deliveries.{Reader, Keeps, Delivery, Desk, atFirst, after, afterAll}
-use Rattle.meaning.specs.PaperSheet.{paperA, profile1, block0, block1, paperSheet, paperLent}
-use Rattle.meaning.proofs.Witness.{desk1, block0-taken, block1-taken, after-block0, after-block1, paper-taken, paper-posts, paper-filled}
+use Rattle.delivery.specs.Deliver.{lend}
+use Rattle.meaning.specs.Deliveries.{Call, Calls, called, Delivery, Fresh, deliveries, answers, sessionAfter, gridAfter}
+use Rattle.meaning.specs.PaperSheet.{block0, paperSheet, paperLent, paperSession, paperCells}
+use Rattle.meaning.proofs.Desks.{Desk, desk, atFirst, after, afterAll, allAnswered, call-desk, calls-desk, calls-answers}
+use Rattle.meaning.proofs.Witness.{after-block0, paper-answers, paper-desk}
 
 abbrev pub isRefused : Answer → Bool
 isRefused Taken = false
 isRefused Held = false
 isRefused (Refused kind block byte) = true
 
-abbrev isHeld : Answer → Bool
+abbrev pub isHeld : Answer → Bool
 isHeld Taken = false
 isHeld Held = true
 isHeld (Refused kind block byte) = false
+
+abbrev pub allAre : (Answer → Bool) → List Answer → Bool
+allAre is [] = true
+allAre is (a ∷ rest) = is a and allAre is rest
 
 -- is the sheet's first cell void
 abbrev southwestVoid : List ℤ → Bool
@@ -38,70 +41,58 @@ southwestVoid g = sameZ (getD g 0 (pos 0)) void
 abbrev oneTaken : Session → Bool
 oneTaken s = eqb (s .taken) 1
 
-module _ (r : Reader) (keeps : Keeps r) where
-  -- "a reader that refuses everything"
-  pub not-all-refused : ((s : Session) (n : ℕ) (b : List ℕ) (g : Lent) → isRefused (r .deliver s n b g .answer) ≡ true) → ⊥
-  not-all-refused all = clash (sym (all fresh 0 paperA (lend paperLent)) ∙ ap isRefused (block0-taken r keeps))
+-- ---- calls that deliver the paper's three blocks
 
-  -- "or answers held to everything"
-  pub not-all-held : ((s : Session) (n : ℕ) (b : List ℕ) (g : Lent) → r .deliver s n b g .answer ≡ Held) → ⊥
-  not-all-held all = clash (ap isHeld (sym (all fresh 0 paperA (lend paperLent)) ∙ block0-taken r keeps))
+module _ (cs : List Call) (kept : Fresh paperLent cs) (paper : deliveries cs ≡ paperSheet) where
+  pub all-taken : answers cs ≡ Taken ∷ Taken ∷ Taken ∷ []
+  all-taken = calls-answers kept ∙ ap (allAnswered (atFirst paperLent)) paper ∙ paper-answers
 
-  -- "one that takes blocks and places nothing": every later block that it takes leaves the grid as it was
-  pub places-what-it-takes : ((s : Session) (n : ℕ) (b : List ℕ) (g : Lent) → 1 ≤ n → r .deliver s n b g .answer ≡ Taken
-      → r .fill s n b g ≡ g) → ⊥
+  at-the-end : desk (sessionAfter fresh cs) (lend (gridAfter paperLent cs)) ≡ desk paperSession (lend paperCells)
+  at-the-end = calls-desk kept ∙ ap (afterAll (atFirst paperLent)) paper ∙ paper-desk
+
+  pub session-is : sessionAfter fresh cs ≡ paperSession
+  session-is = ap (λ (k : Desk). k .session) at-the-end
+
+  pub cells-are : gridAfter paperLent cs ≡ paperCells
+  cells-are = ap (λ (k : Desk). k .lent .grid) at-the-end
+
+  -- not all refused, nor all held
+  pub not-all-refused : allAre isRefused (answers cs) ≡ true → ⊥
+  not-all-refused all = clash (sym all ∙ ap (allAre isRefused) all-taken)
+
+  pub not-all-held : allAre isHeld (answers cs) ≡ true → ⊥
+  not-all-held all = clash (sym all ∙ ap (allAre isHeld) all-taken)
+
+-- ---- block 0 and what comes behind it
+
+abbrev firstOr : List Delivery → Delivery
+firstOr [] = block0
+firstOr (d ∷ ds) = d
+
+module _ (c : Call) (cs : List Call) (kept : Fresh paperLent (c ∷ cs)) (paper : deliveries (c ∷ cs) ≡ paperSheet) where
+  first-is : c .sent ≡ block0
+  first-is = ap firstOr paper
+
+  first-desk : desk (c .returned .session) (c .left) ≡ after (atFirst paperLent) (c .sent)
+  first-desk = go kept
+    where
+      go : Calls fresh (lend paperLent) (c ∷ cs) → desk (c .returned .session) (c .left) ≡ after (atFirst paperLent) (c .sent)
+      go (called p rest) = call-desk p
+
+  -- takes blocks and places nothing: the grid stays as block 0 left it
+  pub places-what-it-takes : gridAfter (c .left .grid) cs ≡ c .left .grid → ⊥
   places-what-it-takes idle =
       clash
       (ap southwestVoid
-      (ap (λ (l : Lent). l .grid) (sym (idle (desk1 .session) 1 profile1 (desk1 .lent) (le-refl 1) (block1-taken r keeps)))
-      ∙ ap (λ (k : Desk). k .lent .grid) (after-block1 r keeps)))
+      (sym (ap (λ (k : Desk). k .lent .grid) (first-desk ∙ ap (after (atFirst paperLent)) first-is ∙ after-block0))
+      ∙ sym idle
+      ∙ cells-are (c ∷ cs) kept paper))
 
-  -- the same, where every later block, taken or not, leaves the grid as it was
-  pub places-something : ((s : Session) (n : ℕ) (b : List ℕ) (g : Lent) → 1 ≤ n → r .fill s n b g ≡ g) → ⊥
-  places-something idle = places-what-it-takes (λ s n b g p e. idle s n b g p)
-
-  -- "or works on the first block and idles afterwards": every later block leaves the session as it was
-  pub session-goes-on : ((s : Session) (n : ℕ) (b : List ℕ) (g : Lent) → 1 ≤ n → r .deliver s n b g .session ≡ s) → ⊥
-  session-goes-on idle =
+  -- works on the first block and idles afterwards: the session stays as block 0 left it
+  pub works-after-first : sessionAfter (c .returned .session) cs ≡ c .returned .session → ⊥
+  works-after-first idle =
       clash
       (ap oneTaken
-      (sym (idle (desk1 .session) 1 profile1 (desk1 .lent) (le-refl 1)) ∙ ap (λ (k : Desk). k .session) (after-block1 r keeps)))
-
-  -- the same, where every later block leaves session and grid as they were
-  pub works-after-first : ((s : Session) (n : ℕ) (b : List ℕ) (g : Lent) → 1 ≤ n
-      → (r .deliver s n b g .session ≡ s) × (r .fill s n b g ≡ g)) → ⊥
-  works-after-first idle = session-goes-on (λ s n b g p. idle s n b g p .0)
-
-  -- places nothing, in use: whatever is delivered after the paper's block 0, the grid is as block 0 left it
-  pub grid-does-not-stay : ((ds : List Delivery)
-      → afterAll r (atFirst paperLent) (block0 ∷ ds) .lent .grid ≡ after r (atFirst paperLent) block0 .lent .grid) → ⊥
-  grid-does-not-stay idle =
-      clash
-      (ap southwestVoid
-      (sym (ap (λ (k : Desk). k .lent .grid) (after-block0 r keeps))
-      ∙ sym (idle (block1 ∷ []))
-      ∙ ap (λ (k : Desk). after r k block1 .lent .grid) (after-block0 r keeps)
-      ∙ ap (λ (k : Desk). k .lent .grid) (after-block1 r keeps)))
-
-  -- idles, in use: whatever is delivered after the paper's block 0, the session is as block 0 left it
-  pub session-does-not-stay : ((ds : List Delivery)
-      → afterAll r (atFirst paperLent) (block0 ∷ ds) .session ≡ after r (atFirst paperLent) block0 .session) → ⊥
-  session-does-not-stay idle =
-      clash
-      (ap oneTaken
-      (sym (ap (λ (k : Desk). k .session) (after-block0 r keeps))
-      ∙ sym (idle (block1 ∷ []))
-      ∙ ap (λ (k : Desk). after r k block1 .session) (after-block0 r keeps)
-      ∙ ap (λ (k : Desk). k .session) (after-block1 r keeps)))
-
-  -- "invented post .. counts": after the paper's sheet the posts are 5 and no other number
-  pub no-other-posts : (posts : ℕ) → afterAll r (atFirst paperLent) paperSheet .session .posts ≡ posts → posts ≡ 5
-  no-other-posts posts e = sym e ∙ paper-posts r keeps
-
-  -- "invented .. filled .. counts": 4 are filled
-  pub no-other-filled : (filled : ℕ) → afterAll r (atFirst paperLent) paperSheet .session .filled ≡ filled → filled ≡ 4
-  no-other-filled filled e = sym e ∙ paper-filled r keeps
-
-  -- "invented .. block counts": 3 blocks are taken
-  pub no-other-taken : (taken : ℕ) → afterAll r (atFirst paperLent) paperSheet .session .taken ≡ taken → taken ≡ 3
-  no-other-taken taken e = sym e ∙ paper-taken r keeps
+      (sym (ap (λ (k : Desk). k .session) (first-desk ∙ ap (after (atFirst paperLent)) first-is ∙ after-block0))
+      ∙ sym idle
+      ∙ session-is (c ∷ cs) kept paper))

@@ -1,5 +1,5 @@
--- The paper's sheet, delivered: each block is taken, and the session and the cells afterwards are those the paper tells, for every
--- reader that keeps the promise. Computing the three verdicts carries it.
+-- The paper's sheet, delivered: each block is taken, and the session and the cells afterwards are those the paper tells. Computing the
+-- three verdicts carries it.
 use mathlib.Core.List.{[], _∷_, List}
 use lib.IntN.{pos, ℤ}
 use mathlib.Core.Path.{_≡_, refl, _∙_, ap, ap₂}
@@ -15,9 +15,9 @@ use Rattle.ground.specs.Posts.{void}
 use Rattle.delivery.specs.Deliver.{verdictOf, lend, roomOf, begins, fills, Verdict, answerOf, lentBy}
 use Rattle.delivery.specs.declared.Answer.{Answer}
 use Rattle.delivery.specs.declared.Answer.the-variants.{Taken}
-use Rattle.delivery.specs.declared.Delivered.{Delivered}
-use Rattle.meaning.specs.Deliveries.{Desk, Reader, Keeps, Delivery, atFirst, answered, after, afterAll}
-use Rattle.meaning.specs.PaperSheet.{paperHeader, paperA, profile1, profile2, paperSession, block0, block1, block2, paperSheet, paperLent, paperDesk, allAnswered}
+use Rattle.meaning.specs.Deliveries.{Delivery}
+use Rattle.meaning.proofs.Desks.{Desk, desk, atFirst, answered, after, afterAll, allAnswered}
+use Rattle.meaning.specs.PaperSheet.{paperHeader, paperA, profile1, profile2, paperSession, block0, block1, block2, paperSheet, paperLent, paperCells}
 
 -- ---- the desk between the blocks
 
@@ -46,6 +46,11 @@ desk2 =
       lent = lend (pos 1000 ∷ void ∷ pos 1200 ∷ void ∷ void ∷ void ∷ pos 7 ∷ []);
     }
 
+-- the desk by the verdict
+by-verdict : (k : Desk) (d : Delivery) (v : Verdict) → verdictOf (k .session) (d .number) (d .bytes) (roomOf (k .lent)) ≡ v
+    → after k d ≡ desk (answerOf (k .session) v .session) (lentBy (k .lent) v)
+by-verdict k d v is = λ i. desk (answerOf (k .session) (is i) .session) (lentBy (k .lent) (is i))
+
 -- ---- the three verdicts
 
 -- the heights of the two profiles
@@ -67,62 +72,31 @@ verdict2 : verdictOf (desk2 .session) 2 profile2 (record { cells = 7 }) ≡ fill
 unfolding verdictOf sound recordB latticeOf placeOf integer real billionths places short profile2
 verdict2 = refl
 
--- ---- any reader that keeps the promise
+-- ---- delivered
 
-module _ (r : Reader) (keeps : Keeps r) where
-  -- its answer, session and cells are those of the verdict
-  module _ (k : Desk) (d : Delivery) (v : Verdict) (is : verdictOf (k .session) (d .number) (d .bytes) (roomOf (k .lent)) ≡ v) where
-    told : r .deliver (k .session) (d .number) (d .bytes) (k .lent) ≡ answerOf (k .session) v
-    told = keeps .answers (k .session) (d .number) (d .bytes) (k .lent) ∙ ap (answerOf (k .session)) is
+pub block0-taken : answered (atFirst paperLent) block0 ≡ Taken
+block0-taken = ap (λ (v : Verdict). answerOf fresh v .answer) verdict0
 
-    filled : r .fill (k .session) (d .number) (d .bytes) (k .lent) ≡ lentBy (k .lent) v
-    filled = keeps .fills (k .session) (d .number) (d .bytes) (k .lent) ∙ ap (lentBy (k .lent)) is
+pub after-block0 : after (atFirst paperLent) block0 ≡ desk1
+unfolding latticeOf
+after-block0 = by-verdict (atFirst paperLent) block0 (begins paperHeader) verdict0
 
-    answered-by : answered r k d ≡ answerOf (k .session) v .answer
-    answered-by = ap (λ (w : Delivered). w .answer) told
+pub after-block1 : after desk1 block1 ≡ desk2
+after-block1 = by-verdict desk1 block1 (fills (desk2 .session) 0 western) verdict1
 
-    desk-by : after r k d ≡ record { session = answerOf (k .session) v .session; lent = lentBy (k .lent) v }
-    desk-by = λ i. record { session = told i .session; lent = filled i }
+pub after-block2 : after desk2 block2 ≡ desk paperSession (lend paperCells)
+after-block2 = by-verdict desk2 block2 (fills paperSession 4 eastern) verdict2
 
-  pub block0-taken : answered r (atFirst paperLent) block0 ≡ Taken
-  block0-taken = answered-by (atFirst paperLent) block0 (begins paperHeader) verdict0
+-- each of the three blocks is taken, in turn
+pub paper-answers : allAnswered (atFirst paperLent) paperSheet ≡ Taken ∷ Taken ∷ Taken ∷ []
+paper-answers =
+    ap₂ (λ (a : Answer) (k : Desk). a ∷ allAnswered k (block1 ∷ block2 ∷ [])) block0-taken after-block0
+    ∙ ap₂ (λ (v : Verdict) (k : Desk). Taken ∷ answerOf (desk1 .session) v .answer ∷ allAnswered k (block2 ∷ [])) verdict1 after-block1
+    ∙ ap (λ (v : Verdict). Taken ∷ Taken ∷ answerOf (desk2 .session) v .answer ∷ []) verdict2
 
-  pub after-block0 : after r (atFirst paperLent) block0 ≡ desk1
-  unfolding latticeOf
-  after-block0 = desk-by (atFirst paperLent) block0 (begins paperHeader) verdict0
-
-  pub block1-taken : answered r desk1 block1 ≡ Taken
-  block1-taken = answered-by desk1 block1 (fills (desk2 .session) 0 western) verdict1
-
-  pub after-block1 : after r desk1 block1 ≡ desk2
-  after-block1 = desk-by desk1 block1 (fills (desk2 .session) 0 western) verdict1
-
-  pub block2-taken : answered r desk2 block2 ≡ Taken
-  block2-taken = answered-by desk2 block2 (fills paperSession 4 eastern) verdict2
-
-  pub after-block2 : after r desk2 block2 ≡ paperDesk
-  after-block2 = desk-by desk2 block2 (fills paperSession 4 eastern) verdict2
-
-  -- each of the three blocks is taken, in turn
-  pub paper-answers : allAnswered r (atFirst paperLent) paperSheet ≡ Taken ∷ Taken ∷ Taken ∷ []
-  paper-answers =
-      ap₂ (λ (a : Answer) (k : Desk). a ∷ allAnswered r k (block1 ∷ block2 ∷ [])) block0-taken after-block0
-      ∙ ap₂ (λ (a : Answer) (k : Desk). Taken ∷ a ∷ allAnswered r k (block2 ∷ [])) block1-taken after-block1
-      ∙ ap (λ (a : Answer). Taken ∷ Taken ∷ a ∷ []) block2-taken
-
-  -- the session and the cells afterwards
-  pub paper-desk : afterAll r (atFirst paperLent) paperSheet ≡ paperDesk
-  paper-desk =
-      ap (λ (k : Desk). afterAll r k (block1 ∷ block2 ∷ [])) after-block0
-      ∙ ap (λ (k : Desk). afterAll r k (block2 ∷ [])) after-block1
-      ∙ after-block2
-
-  -- and number by number
-  pub paper-taken : afterAll r (atFirst paperLent) paperSheet .session .taken ≡ 3
-  paper-taken = ap (λ (k : Desk). k .session .taken) paper-desk
-
-  pub paper-posts : afterAll r (atFirst paperLent) paperSheet .session .posts ≡ 5
-  paper-posts = ap (λ (k : Desk). k .session .posts) paper-desk
-
-  pub paper-filled : afterAll r (atFirst paperLent) paperSheet .session .filled ≡ 4
-  paper-filled = ap (λ (k : Desk). k .session .filled) paper-desk
+-- the session and the cells afterwards
+pub paper-desk : afterAll (atFirst paperLent) paperSheet ≡ desk paperSession (lend paperCells)
+paper-desk =
+    ap (λ (k : Desk). afterAll k (block1 ∷ block2 ∷ [])) after-block0
+    ∙ ap (λ (k : Desk). afterAll k (block2 ∷ [])) after-block1
+    ∙ after-block2

@@ -1,12 +1,13 @@
--- Demand 3 over the joined text: what a delivery is answered, said without a session; any reader; and a list of deliveries.
+-- Demand 3 over the joined text: what a delivery is answered, said without a session; and a list of calls of `deliver`.
 use mathlib.Core.Bool.{cond, not}
 use lib.Dec.{eqb, ltb}
-use mathlib.Core.List.{List, _++_, [], _∷_}
-use Prim.Native.Nat.{ℕ, _≤_}
-use lib.ListN.{length}
+use mathlib.Core.List.{List, _++_, [], _∷_, map}
+use Prim.Native.Nat.{ℕ, _≤_, _<_}
+use lib.ListN.{length, getD}
 use lib.IntN.{ℤ}
 use mathlib.Core.Path.{_≡_}
 use Rattle.ground.specs.Blocks.{blocksIn}
+use Rattle.ground.specs.Posts.{void}
 use Rattle.session.specs.declared.Session.{Session}
 use Rattle.session.specs.Session.{fresh}
 use Rattle.delivery.specs.declared.Answer.{Answer}
@@ -31,45 +32,42 @@ answerTo text number block room =
     (cond (eqb number 0) (refusedBy broken (cond short (Refused 12 0 0) Taken))
     (cond (isComplete text) (Refused 4 number 0) (cond short (Refused 12 number 0) (refusedBy broken Taken))))))
 
--- ---- readers
+-- ---- calls of `deliver`, one after another
 
--- anything that takes deliveries: its answer and session, and what is lent afterwards
-pub record Reader : Type 0 where
-  pub deliver : Session → ℕ → List ℕ → Lent → Delivered
-  pub fill : Session → ℕ → List ℕ → Lent → Lent
-
--- a reader that keeps the promise of `deliver`
-pub record Keeps (r : Reader) : Type 0 where
-  pub answers : (s : Session) (number : ℕ) (block : List ℕ) (lent : Lent) → r .deliver s number block lent ≡ deliverOf s number block lent
-  pub fills : (s : Session) (number : ℕ) (block : List ℕ) (lent : Lent) → r .fill s number block lent ≡ lentAfter s number block lent
-
--- ---- lists of deliveries
-
+-- what is delivered: a number and bytes, as they come
 pub record Delivery : Type 0 where
   pub number : ℕ
   pub bytes : List ℕ
 
--- session and what is lent, as last returned
-pub record Desk : Type 0 where
-  pub session : Session
-  pub lent : Lent
+-- one call: what was delivered, what it returned, and what was lent, as it left it
+pub record Call : Type 0 where
+  pub sent : Delivery
+  pub returned : Delivered
+  pub left : Lent
 
-abbrev pub atFirst : List ℤ → Desk
-atFirst grid = record { session = fresh; lent = lend grid }
+-- what `load::deliver` promises of a call, word for word: its two equations (paper, proof Contracts, reads them off the contract)
+pub record Promised (s : Session) (lent : Lent) (c : Call) : Type 0 where
+  pub answers : c .returned ≡ deliverOf s (c .sent .number) (c .sent .bytes) lent
+  pub fills : c .left .grid ≡ lentAfter s (c .sent .number) (c .sent .bytes) lent .grid
 
-abbrev pub answered : Reader → Desk → Delivery → Answer
-answered r k d = r .deliver (k .session) (d .number) (d .bytes) (k .lent) .answer
+-- calls from a session and what is lent, each handed what the one before it returned and left
+pub data Calls : Session → Lent → List Call → Type 0 where
+  nobody : {s : Session} {lent : Lent} → Calls s lent []
+  called : {s : Session} {lent : Lent} {c : Call} {cs : List Call} → Promised s lent c → Calls (c .returned .session) (c .left) cs
+      → Calls s lent (c ∷ cs)
 
-abbrev pub after : Reader → Desk → Delivery → Desk
-after r k d =
-    record {
-      session = r .deliver (k .session) (d .number) (d .bytes) (k .lent) .session;
-      lent = r .fill (k .session) (d .number) (d .bytes) (k .lent);
-    }
+-- a fresh session, and a grid as it is lent
+abbrev pub Fresh : List ℤ → List Call → Type 0
+Fresh grid cs = Calls fresh (lend grid) cs
 
-abbrev pub afterAll : Reader → Desk → List Delivery → Desk
-afterAll r k [] = k
-afterAll r k (d ∷ ds) = afterAll r (after r k d) ds
+-- the session as last returned, and the grid as last left
+abbrev pub sessionAfter : Session → List Call → Session
+sessionAfter s [] = s
+sessionAfter s (c ∷ cs) = sessionAfter (c .returned .session) cs
+
+abbrev pub gridAfter : List ℤ → List Call → List ℤ
+gridAfter grid [] = grid
+gridAfter grid (c ∷ cs) = gridAfter (c .left .grid) cs
 
 -- the bytes of a delivery that was taken
 abbrev pub bytesIf : Answer → List ℕ → List ℕ
@@ -78,21 +76,26 @@ bytesIf Held bytes = []
 bytesIf (Refused kind block byte) bytes = []
 
 -- the taken blocks, joined
-abbrev pub takenText : Reader → Desk → List Delivery → List ℕ
-takenText r k [] = []
-takenText r k (d ∷ ds) = bytesIf (answered r k d) (d .bytes) ++ takenText r (after r k d) ds
+abbrev pub takenText : List Call → List ℕ
+takenText [] = []
+takenText (c ∷ cs) = bytesIf (c .returned .answer) (c .sent .bytes) ++ takenText cs
+
+abbrev pub deliveries : List Call → List Delivery
+deliveries cs = map (λ (c : Call). c .sent) cs
+
+abbrev pub answers : List Call → List Answer
+answers cs = map (λ (c : Call). c .returned .answer) cs
 
 -- every delivery twice in a row
 abbrev pub twice : List Delivery → List Delivery
 twice [] = []
 twice (d ∷ ds) = d ∷ (d ∷ twice ds)
 
--- a list of deliveries with others among it that are not taken: held, early, or damaged so that a rule is broken
-pub data Disturbed (r : Reader) : Desk → List Delivery → List Delivery → Type 0 where
-  ended : {k : Desk} → Disturbed r k [] []
-  sent : {k : Desk} {es ds : List Delivery} (d : Delivery) → Disturbed r (after r k d) es ds → Disturbed r k (d ∷ es) (d ∷ ds)
-  disturbed : {k : Desk} {es ds : List Delivery} (d : Delivery) → (answered r k d ≡ Taken → ⊥) → Disturbed r k es ds
-      → Disturbed r k (d ∷ es) ds
+-- calls that deliver a list, with others among them that are not taken: held, early, or damaged so that a rule is broken
+pub data Disturbed : List Call → List Delivery → Type 0 where
+  ended : Disturbed [] []
+  sent : {c : Call} {es : List Call} {ds : List Delivery} → Disturbed es ds → Disturbed (c ∷ es) (c .sent ∷ ds)
+  disturbed : {c : Call} {es : List Call} {ds : List Delivery} → (c .returned .answer ≡ Taken → ⊥) → Disturbed es ds → Disturbed (c ∷ es) ds
 
 -- "A block is taken exactly when ..": 1,024 bytes under the next number, no rule of document 01 broken by the text with it, and cells enough
 pub record Due (text : List ℕ) (lent : List ℤ) (d : Delivery) : Type 0 where
@@ -100,3 +103,7 @@ pub record Due (text : List ℕ) (lent : List ℤ) (d : Delivery) : Type 0 where
   pub block : length (d .bytes) ≡ 1024
   pub kept : firstBreach (text ++ d .bytes) .kind ≡ 0
   pub room : cellsIn (text ++ d .bytes) ≤ length lent
+
+-- a cell of the grid, and what it holds: the index stands inside, so no value is made up
+abbrev pub Holds : List ℤ → ℕ → ℤ → Type 0
+Holds grid c value = (c < length grid) × (getD grid c void ≡ value)

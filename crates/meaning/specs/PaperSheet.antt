@@ -13,9 +13,7 @@ use Rattle.heading.specs.Heading.{billion}
 use Rattle.session.specs.Session.{noProfile}
 use Rattle.session.specs.declared.Session.{Session}
 use Rattle.ground.specs.Posts.{void}
-use Rattle.delivery.specs.declared.Answer.{Answer}
-use Rattle.delivery.specs.Deliver.{lend}
-use Rattle.meaning.specs.Deliveries.{Delivery, Desk, Reader, answered, after}
+use Rattle.meaning.specs.Deliveries.{Delivery}
 
 -- ---- fields of a width
 
@@ -187,11 +185,3 @@ paperSession =
 -- "Cells: 1000, void, 1200, void, 1100, 900", and the cell past the sheet as lent
 abbrev pub paperCells : List ℤ
 paperCells = pos 1000 ∷ void ∷ pos 1200 ∷ void ∷ pos 1100 ∷ pos 900 ∷ pos 7 ∷ []
-
-abbrev pub paperDesk : Desk
-paperDesk = record { session = paperSession; lent = lend paperCells }
-
--- what each delivery of a list is answered, in turn
-abbrev pub allAnswered : Reader → Desk → List Delivery → List Answer
-allAnswered r k [] = []
-allAnswered r k (d ∷ ds) = answered r k d ∷ allAnswered r (after r k d) ds

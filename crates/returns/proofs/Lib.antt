@@ -4,6 +4,9 @@ pub mod ZeroReads
 pub mod Following
 pub mod InOrder
 pub mod SentFollows
+pub mod Refusals
 pub mod Accepted
 pub mod ShutOutWriters
+pub mod WholeSheets
+pub mod Alike
 pub mod Demand2

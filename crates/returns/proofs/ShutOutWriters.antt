@@ -3,7 +3,7 @@
 use mathlib.Core.List.{List}
 use Prim.Native.Nat.{ℕ, _≤_, _<_}
 use lib.ListN.{replicate, getD, length}
-use mathlib.Core.Path.{_≡_, refl, sym, _∙_, ap}
+use mathlib.Core.Path.{_≡_, refl, sym, _∙_, ap, ap₂}
 use mathlib.Core.Bool.{cond, Bool, true, false}
 use native.Mathlib.Omega.{arith}
 use lib.Dec.{eqb, ltb}
@@ -29,16 +29,17 @@ use Rattle.spell.specs.Spell.{integerText, realFits}
 use Rattle.delivery.specs.declared.Answer.{Answer}
 use Rattle.delivery.specs.declared.Answer.the-variants.{Taken, Held, Refused}
 use Rattle.delivery.specs.Deliver.{Lent, verdictOf, deliverOf}
-use Rattle.delivery.specs.declared.Delivered.{Delivered}
 use Rattle.meaning.specs.PaperSheet.{paperA, paperCells}
-use Rattle.meaning.specs.Deliveries.{Reader, Keeps, Delivery, Desk, answered}
+use Rattle.meaning.specs.Deliveries.{Delivery}
+use Rattle.meaning.proofs.Desks.{Desk, answered}
 use Rattle.written.specs.Cells.{canSend, sendable, voidsBefore, upToLast, profileCells, startAt, columnFor, cellsSent}
-use Rattle.written.specs.Sending.{fault, sheetFault, blockFault, Fault}
+use Rattle.written.specs.declared.Sent.the-variants.{Written}
+use Rattle.written.specs.Sending.{fault, sentBy, sheetFault, blockFault}
 use Rattle.written.specs.Blocks.{piecesBy, blockZero, blockSent, profileBlock, sheetCells, piecesA, xSent, ySent}
 use Rattle.written.proofs.PiecesSent.{pieceFits, CornerFits, header-reals, zero-fits, all-fit}
 use Rattle.written.proofs.HeadSent.{HeadFits}
 use Rattle.written.proofs.BlocksSent.{head-fits, sheet-least, sheet-greatest}
-use Rattle.returns.specs.Writers.{Writer, KeepsWriting, CanBeSent}
+use Rattle.returns.specs.Writers.{Writing, Wrote, CanBeSent}
 use Rattle.returns.proofs.Accepted.{all-cells}
 
 -- ---- the paper's sheet, sent
@@ -70,42 +71,31 @@ letter1 = refl
 
 -- ---- no such writer keeps the promise
 
-module _ (w : Writer) (keeps : KeepsWriting w) where
-  accepted0 : w .answer paperA paperCells 0 zeros .kind ≡ 0
-  accepted0 = ap (λ (f : Fault). f .kind) (keeps .answers paperA paperCells 0 zeros ∙ paper-fine0)
+module _ (number : ℕ) (fine : blockFault paperA paperCells number 1024 ≡ fault 0 0) (w : Writing) (promised : Wrote paperA paperCells w)
+    (asked : w .number ≡ number) (long : length (w .lent) ≡ 1024) where
+  nothing-wrong : blockFault paperA paperCells (w .number) (length (w .lent)) ≡ fault 0 0
+  nothing-wrong = ap₂ (blockFault paperA paperCells) asked long ∙ fine
 
-  accepted1 : w .answer paperA paperCells 1 zeros .kind ≡ 0
-  accepted1 = ap (λ (f : Fault). f .kind) (keeps .answers paperA paperCells 1 zeros ∙ paper-fine1)
+  paper-written : w .returned ≡ Written
+  paper-written = promised .answers ∙ ap sentBy nothing-wrong
 
-  begins0 : firstByte (w .block paperA paperCells 0 zeros) ≡ 80
-  begins0 =
-      ap firstByte (keeps .writes paperA paperCells 0 zeros)
-      ∙ (λ i. firstByte (cond (eqb (paper-fine0 i .kind) 0) (blockSent paperA (headerOf paperA) paperCells 0) zeros))
-      ∙ letter0
+  paper-block : w .left ≡ blockSent paperA (headerOf paperA) paperCells number
+  paper-block =
+      promised .writes
+      ∙ (λ i. cond (eqb (nothing-wrong i .kind) 0) (blockSent paperA (headerOf paperA) paperCells (w .number)) (w .lent))
+      ∙ ap (blockSent paperA (headerOf paperA) paperCells) asked
 
-  begins1 : firstByte (w .block paperA paperCells 1 zeros) ≡ 32
-  begins1 =
-      ap firstByte (keeps .writes paperA paperCells 1 zeros)
-      ∙ (λ i. firstByte (cond (eqb (paper-fine1 i .kind) 0) (blockSent paperA (headerOf paperA) paperCells 1) zeros))
-      ∙ letter1
+-- blocks 0 and 1 of the paper's sheet are written, and are not the same
+module _ (w v : Writing) (p : Wrote paperA paperCells w) (q : Wrote paperA paperCells v) (a : w .number ≡ 0) (b : v .number ≡ 1)
+    (l : length (w .lent) ≡ 1024) (m : length (v .lent) ≡ 1024) where
+  pub paper-sent : (w .returned ≡ Written) × (v .returned ≡ Written)
+  paper-sent = (paper-written 0 paper-fine0 w p a l, paper-written 1 paper-fine1 v q b m)
 
-  -- "a writer that .. refuses every grid": no writer that keeps the promise does
-  pub not-all-refused : ((template : List ℕ) (grid : List ℤ) (number : ℕ) (block : List ℕ)
-      → w .answer template grid number block .kind ≡ 0 → ⊥) → ⊥
-  not-all-refused all = all paperA paperCells 0 zeros accepted0
-
-  -- "a writer that always sends the same block": none does, not even only where it accepts
-  pub not-the-same-where-sent : ((template : List ℕ) (grid : List ℤ) (n m : ℕ) (block : List ℕ)
-      → w .answer template grid n block .kind ≡ 0 → w .answer template grid m block .kind ≡ 0
-      → w .block template grid n block ≡ w .block template grid m block) → ⊥
-  not-the-same-where-sent same =
-      let e : _≡_ {A = ℕ} 80 32 = sym begins0 ∙ ap firstByte (same paperA paperCells 0 1 zeros accepted0 accepted1) ∙ begins1 in
+  pub not-the-same-block : w .left ≡ v .left → ⊥
+  not-the-same-block same =
+      let e : _≡_ {A = ℕ} 80 32
+      = sym letter0 ∙ ap firstByte (sym (paper-block 0 paper-fine0 w p a l) ∙ same ∙ paper-block 1 paper-fine1 v q b m) ∙ letter1 in
       omega (arith, e)
-
-  -- nor whether it accepts or not
-  pub not-always-the-same : ((template : List ℕ) (grid : List ℤ) (n m : ℕ) (block : List ℕ)
-      → w .block template grid n block ≡ w .block template grid m block) → ⊥
-  not-always-the-same same = not-the-same-where-sent (λ template grid n m block a b. same template grid n m block)
 
 -- ---- the reader of the definition, by which the cells that two grids send are compared
 
@@ -132,12 +122,9 @@ none-defined s number block lent some done t =
     go true p true q false u true v = rw (p, q, u, v)
     go true p true q false u false v = rw (p, q, u, v, n, done)
 
--- nor does any reader that keeps the promise
-pub none-when-complete : (r : Reader) → Keeps r → (k : Desk) (d : Delivery) → 1 ≤ d .number → complete (k .session) ≡ true
-    → answered r k d ≡ Taken → ⊥
-none-when-complete r keeps k d some done t =
-    none-defined (k .session) (d .number) (d .bytes) (k .lent) some done
-    (ap (λ (x : Delivered). x .answer) (sym (keeps .answers (k .session) (d .number) (d .bytes) (k .lent))) ∙ t)
+-- nor does a desk
+pub none-when-complete : (k : Desk) (d : Delivery) → 1 ≤ d .number → complete (k .session) ≡ true → answered k d ≡ Taken → ⊥
+none-when-complete k d some done t = none-defined (k .session) (d .number) (d .bytes) (k .lent) some done t
 
 -- ---- every real that is sent has digits enough in its field
 

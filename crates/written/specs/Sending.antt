@@ -1,5 +1,5 @@
 -- Document 01, "Writing": what the writer refuses, in its order, and what it sends.
-use Prim.Native.Nat.{ℕ}
+use Prim.Native.Nat.{ℕ, _*_}
 use mathlib.Core.Bool.{cond}
 use mathlib.Core.List.{List, map}
 use lib.IntN.{ℤ}
@@ -12,6 +12,8 @@ use Rattle.heading.specs.Heading.{headerOf}
 use Rattle.sheet.specs.declared.Checked.{Checked}
 use Rattle.sheet.specs.declared.Checked.the-variants.{Sheet, Refused as NoSheet}
 use Rattle.sheet.specs.RecordA.{recordA}
+use Rattle.written.specs.declared.Sent.{Sent}
+use Rattle.written.specs.declared.Sent.the-variants.{Written, Refused}
 use Rattle.written.specs.Cells.{sendable, blockCount}
 use Rattle.written.specs.Blocks.{sheetCells, blockSent}
 
@@ -22,6 +24,10 @@ pub record Fault : Type 0 where
 
 abbrev pub fault : ℕ → ℕ → Fault
 fault kind number = record { kind = kind; number = number }
+
+-- the cases of the writer's answer, with the paper's kind and number
+abbrev pub sentBy : Fault → Sent
+sentBy f = cond (eqb (f .kind) 0) Written (Refused (f .kind) (f .number))
 
 -- "12 (0), 13 first cell .. (cell)"
 abbrev pub gridFault : Header → List ℤ → Fault
@@ -62,3 +68,13 @@ countOf template grid = cond (eqb (sheetFault template grid .kind) 0) (blockCoun
 -- the blocks of a sheet up to a number, joined
 abbrev pub sentText : List ℕ → List ℤ → ℕ → List ℕ
 sentText template grid n = joined (map (blockSent template (headerOf template) grid) (below n))
+
+-- ---- a whole sheet into one lent buffer: the sheet's own refusals, then a buffer that is not count × 1,024 bytes (1, with number 0)
+
+unfoldable pub sheetSentFault : List ℕ → List ℤ → ℕ → Fault
+sheetSentFault template grid bytes =
+    first (sheetFault template grid) (cond (eqb bytes (1024 * countOf template grid)) (fault 0 0) (fault 1 0))
+
+abbrev pub sheetAfter : List ℕ → List ℤ → List ℕ → List ℕ
+sheetAfter template grid out =
+    cond (eqb (sheetSentFault template grid (length out) .kind) 0) (sentText template grid (countOf template grid)) out
