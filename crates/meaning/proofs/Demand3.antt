@@ -17,7 +17,8 @@ use Rattle.session.specs.Session.{fresh}
 use Rattle.ground.specs.Posts.{void, filledIn}
 use Rattle.delivery.specs.declared.Answer.the-variants.{Taken}
 use Rattle.delivery.specs.Deliver.{Lent, lend, roomOf, deliverOf, lentAfter}
-use Rattle.meaning.specs.Text.{profilesIn, cellsIn, postsIn, heightIn, allHeights, cellOfPost}
+use Rattle.meaning.specs.Text.{profilesIn, cellsIn, postsIn, heightIn, allPosts, filledPosts, cellOfPost}
+use Rattle.meaning.specs.Exact.{Exact}
 use Rattle.meaning.specs.Means.{begunSession, sessionOf, gridOf}
 use Rattle.meaning.specs.Rules.{firstBreach}
 use Rattle.meaning.specs.Deliveries.{Delivery, Call, Promised, Fresh, sessionAfter, gridAfter, takenText, deliveries, answers, twice, Disturbed, Due, Holds, refusedBy, answerTo}
@@ -27,6 +28,7 @@ use Rattle.meaning.proofs.OneDelivery.{Stands, stands-first, answer-tol
 use Rattle.meaning.proofs.Runs.{stands-after, taken-due, due-taken, late-not-taken, next-answer, twice-once, disturbed-same}
 use Rattle.meaning.proofs.ShutOut.{isRefused, isHeld, allAre}
 use Rattle.meaning.proofs.EachPost as Cells
+use Rattle.meaning.proofs.EachNumber as Numbers
 use Rattle.meaning.proofs.ShutOut as Shut
 
 -- what a desk holds, taken apart
@@ -119,18 +121,26 @@ module _ (lent : List ℤ) (cs : List Call) (kept : Fresh lent cs) where
   pub past-the-sheet : 1 ≤ blocksIn text → drop (cellsIn text) grid ≡ drop (cellsIn text) lent
   past-the-sheet some = ap (drop (cellsIn text)) grid-means ∙ Cells.past-the-sheet text lent some
 
-  -- as many filled cells as filled posts
-  pub filled-as-posts : 1 ≤ blocksIn text → filledIn (take (cellsIn text) grid) ≡ filledIn (allHeights text)
+  -- as many filled cells as filled posts: those that are not -32767
+  pub filled-as-posts : 1 ≤ blocksIn text → filledIn (take (cellsIn text) grid) ≡ filledPosts (allPosts text)
   filled-as-posts some =
       ap (λ (g : List ℤ). filledIn (take (cellsIn text) g)) grid-means
       ∙ Cells.filled-as-posts text (stands .good .kept some) lent some
+      ∙ Numbers.filled-posts text (stands .good .kept some)
 
   -- and the session's counts are the text's: blocks, posts and filled posts
   pub counts-are : 1 ≤ blocksIn text
-      → (session .taken ≡ blocksIn text) × (session .posts ≡ length (allHeights text)) × (session .filled ≡ filledIn (allHeights text))
+      → (session .taken ≡ blocksIn text) × (session .posts ≡ length (allPosts text)) × (session .filled ≡ filledPosts (allPosts text))
   counts-are some =
-      let e = session-means ∙ begun-means text some in
-      (ap (λ (s : Session). s .taken) e, ap (λ (s : Session). s .posts) e, ap (λ (s : Session). s .filled) e)
+      let e = session-means ∙ begun-means text some in (
+        ap (λ (s : Session). s .taken) e,
+        ap (λ (s : Session). s .posts) e ∙ Numbers.as-many-posts text,
+        ap (λ (s : Session). s .filled) e ∙ Numbers.filled-posts text (stands .good .kept some),
+      )
+
+  -- each decimal exact: every number of header, heads and posts is the grammar's meaning of its bytes, and a filled cell is made of them
+  pub each-number : 1 ≤ blocksIn text → Exact text
+  each-number some = Numbers.each-number text (stands .good .kept some)
 
   -- until block 0 is taken the grid is as lent
   pub lent-until-block-0 : blocksIn text ≡ 0 → grid ≡ lent

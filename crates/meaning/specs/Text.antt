@@ -1,11 +1,11 @@
 -- The joined text of a sheet: blocks, profiles, posts, and the cell that each post stands for. Nothing here knows a session or a step.
-use mathlib.Core.List.{List, map}
+use mathlib.Core.List.{List, [], _∷_, map}
 use Prim.Native.Nat.{ℕ, _*_, _/_, zero, suc, _+_, _-_, min, _%_}
 use mathlib.Core.Bool.{cond, Bool}
 use lib.Dec.{ltb, leb}
 use lib.IntN.{ℤ}
 use Rattle.laws.specs.Lists.{below, joined}
-use Rattle.laws.specs.Sign.{_and_}
+use Rattle.laws.specs.Sign.{_and_, sameZ}
 use Rattle.number.specs.Integer.{integer}
 use Rattle.lattice.specs.declared.Place.{Place}
 use Rattle.lattice.specs.declared.Place.the-variants.{On, Off}
@@ -17,7 +17,7 @@ use Rattle.heading.specs.Heading.{headerOf}
 use Rattle.profile.specs.RecordB.{headOf}
 use Rattle.profile.specs.declared.record_b.Head.{Head}
 use Rattle.ground.specs.Blocks.{blockAt, blocksIn}
-use Rattle.ground.specs.Posts.{blocksFor, height, void}
+use Rattle.ground.specs.Posts.{blocksFor, height, void, voidPost}
 
 -- ---- "Record A (block 0)"
 
@@ -80,6 +80,15 @@ heightsIn text j = map (heightIn text j) (below (postsIn text j))
 
 abbrev pub allHeights : List ℕ → List ℤ
 allHeights text = joined (map (heightsIn text) (below (profilesIn text)))
+
+-- the posts themselves, in the same order
+abbrev pub allPosts : List ℕ → List ℤ
+allPosts text = joined (map (λ j. map (postIn text j) (below (postsIn text j))) (below (profilesIn text)))
+
+-- "The post -32767 is void": how many are not
+abbrev pub filledPosts : List ℤ → ℕ
+filledPosts [] = 0
+filledPosts (p ∷ ps) = cond (sameZ p voidPost) 0 1 + filledPosts ps
 
 -- ---- the lattice
 
