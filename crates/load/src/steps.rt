@@ -1,36 +1,15 @@
-// The parts of a delivery: the first tests, the session with a block more, and the closing rules.
-use frame::Header;
+// The parts of a later block: the session with a block more, and the closing rules.
+use gate::verdict;
+use gate::verdict::Judged;
 use ground::Tally;
 use session::Profile;
 use session::Session;
 ghost use mathlib.Core.Path.{_≡_};
 ghost use Prim.Native.Nat.{_+_, _*_, _^_, _≤_, _<_};
 ghost use Rattle.frame.specs.Frame.{rowsOf};
-ghost use Rattle.delivery.specs.Deliver.{closedSession, nextCell};
+ghost use Rattle.delivery.specs.Deliver.{closedSession, nextCell, filling};
 ghost use Rattle.ground.specs.Posts.{merged};
-ghost use Rattle.load.specs.Steps.{readWith, filledWith, fillStep, Filling, Placing};
-
-// What the first tests leave: a refusal, a held block, block 0, or a later block.
-pub(crate) enum Gate {
-    Stop(u32),
-    Again,
-    Begin,
-    Later,
-}
-
-// A later block judged: a refusal, or the session after it with the first cell and how many heights stand in the scratch.
-pub(crate) enum Step {
-    Wrong(u32, u64, u32),
-    Fills(Session, u64, u64),
-}
-
-// Any delivery judged: held, refused, a good block 0, or a good later block.
-pub(crate) enum Judged {
-    Held,
-    Refused(u32, u64, u32),
-    Begins(Header),
-    Fills(Session, u64, u64),
-}
+ghost use Rattle.load.specs.Steps.{readWith, filledWith, ByTally, Filling, Placing};
 
 // Two tallies, one behind the other.
 pub(crate) fn merge(t: Tally, u: Tally) -> Tally
@@ -133,18 +112,25 @@ fn next_cell(s: Session, column: u64, p: Profile) -> u64
 }
 
 // A good block of profile p: the session after it, or the closing rule it breaks.
-pub(crate) fn fill_step(s: Session, number: u64, column: u64, p: Profile, n: u64, u: Tally) -> Step
+pub(crate) fn fill_step(
+    s: Session,
+    number: u64,
+    column: u64,
+    p: Profile,
+    n: u64,
+    u: Tally,
+) -> Judged
     requires { ⌜ Filling s p n u × Placing s number column p ⌝ }
-    ensures { λ r. ⌜ r ≡ fillStep s number column p n u ⌝ }
+    ensures { λ r. ⌜ ByTally s (filling s number column p) n u r ⌝ }
 {
     let after = fill_session(s, column, p, n, u);
     let at = next_cell(s, column, p);
     if p.read + n < p.posts {
-        return Step::Fills(after, at, n);
+        return verdict::taken(after, 0, at, n);
     }
     let c = rules::close_fault(number - session::open_blocks(s), after);
     if c.kind != 0 {
-        return Step::Wrong(c.kind, c.block, c.byte);
+        return verdict::refused(s, c.kind, c.block, c.byte);
     }
-    Step::Fills(close_session(after), at, n)
+    verdict::taken(close_session(after), 0, at, n)
 }
