@@ -20,7 +20,9 @@ use Rattle.ground.proofs.MergedTallies.{tally-merged}
 use Rattle.delivery.specs.Deliver.{filledSession, sheetTally, profileTally, closedSession, closeFault, closeVerdict, fills, wrong, Verdict, filling, nextCell}
 use Rattle.delivery.specs.declared.Refusal.{Refusal}
 use Rattle.gate.specs.Gate.{taken, judgedOf}
-use Rattle.load.specs.Steps.{filledWith, Lies, Placing}
+use Rattle.progress.specs.Progress.{countable, filledWith}
+use Rattle.progress.proofs.Counts.{is-countable}
+use Rattle.load.specs.Steps.{Filling, Lies, Placing}
 
 filled-same : (s : Session) (column : ℕ) (p : Profile) (hs : List ℤ)
     → filledSession s column p hs ≡ filledWith s column p (length hs) (tallyAll noTally hs)
@@ -49,6 +51,22 @@ filled-same s column p hs =
             high = tally-merged (profileTally p) hs j .high;
           };
     }
+
+-- a block's counts are gone on from
+pub filled-on : (s : Session) (column : ℕ) (p : Profile) (n : ℕ) (u : Tally) → Filling s p n u
+    → cond (countable s p n u) (filledWith s column p n u) s ≡ filledWith s column p n u
+filled-on s column p n u k =
+    rw
+    (is-countable s p n u
+    (record {
+      taken = omega (arith, k .ready .taken-most);
+      posts = omega (arith, k .ready .posts-most);
+      filled = omega (arith, k .ready .filled-most, k .ready .posts-most);
+      read = omega arith;
+      profile-filled = omega arith;
+      more = omega arith;
+      more-filled = omega arith;
+    }))
 
 module _ (s : Session) (number column : ℕ) (p : Profile) where
   -- the verdict, for any session that a block may leave

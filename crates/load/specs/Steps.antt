@@ -11,42 +11,12 @@ use Rattle.session.specs.declared.Session.{Session}
 use Rattle.session.specs.Session.{openBlocks, busy}
 use Rattle.session.specs.declared.Profile.{Profile}
 use Rattle.ground.specs.declared.Tally.{Tally}
-use Rattle.ground.specs.Posts.{merged, noTally, tallyAll}
+use Rattle.ground.specs.Posts.{noTally, tallyAll}
 use Rattle.posts.specs.Scan.{voided, placed}
-use Rattle.delivery.specs.Deliver.{Verdict, again, wrong, begins, fills, profileTally, sheetTally}
+use Rattle.delivery.specs.Deliver.{Verdict, again, wrong, begins, fills}
 use Rattle.delivery.specs.declared.Delivered.{Delivered}
 use Rattle.gate.specs.Gate.{judgedOf}
 use Rattle.gate.specs.declared.verdict.Judged.{Judged}
-
--- the open profile and the session with n posts more, of tally u
-abbrev pub readWith : Profile → ℕ → Tally → Profile
-readWith p n u =
-    record {
-      posts = p .posts;
-      row = p .row;
-      datum = p .datum;
-      least = p .least;
-      greatest = p .greatest;
-      read = p .read + n;
-      filled = merged (profileTally p) u .filled;
-      low = merged (profileTally p) u .low;
-      high = merged (profileTally p) u .high;
-    }
-
-abbrev pub filledWith : Session → ℕ → Profile → ℕ → Tally → Session
-filledWith s column p n u =
-    record {
-      header = s .header;
-      taken = s .taken + 1;
-      closed = s .closed;
-      posts = s .posts + n;
-      filled = merged (sheetTally s) u .filled;
-      low = merged (sheetTally s) u .low;
-      high = merged (sheetTally s) u .high;
-      column = column;
-      finished = s .finished;
-      profile = readWith p n u;
-    }
 
 -- ---- what a sound session with block 0 taken gives the code
 

@@ -82,26 +82,6 @@ fn start_profile(s: Session, number: u64, block: &[u8], scratch: &mut [i32]) -> 
     }
 }
 
-fn finish_session(s: Session) -> Session
-    requires { ⌜ s .taken ≤ 26626 ⌝ }
-    ensures { λ r. ⌜ r ≡ finishedSession s ⌝ }
-{
-    let header = s.header;
-    let profile = s.profile;
-    Session {
-        header,
-        taken: s.taken + 1,
-        closed: s.closed,
-        posts: s.posts,
-        filled: s.filled,
-        low: s.low,
-        high: s.high,
-        column: s.column,
-        finished: 1,
-        profile,
-    }
-}
-
 // Record C: no cell, one block more.
 fn finish_sheet(s: Session, number: u64, block: &[u8]) -> Judged
     requires { ⌜ s .taken ≤ 26626 ⌝ }
@@ -111,7 +91,7 @@ fn finish_sheet(s: Session, number: u64, block: &[u8]) -> Judged
     if f.kind != 0 {
         return verdict::refused(s, f.kind, number, f.byte);
     }
-    verdict::taken(finish_session(s), 0, 0, 0)
+    verdict::taken(progress::finish_session(s), 0, 0, 0)
 }
 
 // A later block, judged whole before a cell is written.

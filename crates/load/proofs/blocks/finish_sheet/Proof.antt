@@ -1,8 +1,10 @@
 -- Record C, taken or refused.
 use mathlib.Core.List.{[]}
 use mathlib.Core.Path.{_∙_, ap}
+use native.Mathlib.Omega.{arith}
 use Rattle.profile.specs.RecordC.{recordC}
 use Rattle.delivery.specs.Deliver.{fills, finishedSession}
+use Rattle.progress.proofs.Counts.{goes-on}
 use Rattle.gate.specs.Gate.{judgedOf, taken}
 use Rattle.load.proofs.Judged.{fault-refused, fault-none}
 use borrow.Author.Needs.{needs}
@@ -33,7 +35,7 @@ returns-2 c =
     let r = c .before .before .before .before in
     let a = r .before .before .args in
     c .taken .ensures
-    ∙ (λ j. taken (c .before .finish-session .ensures j) 0 0 0)
+    ∙ (λ j. taken ((c .before .finish-session .ensures ∙ goes-on (a .s .taken) _ _ (omega (arith, r .before .before .pre))) j) 0 0 0)
     ∙ ap (judgedOf (a .s)) (fault-none (recordC (a .block .now)) (a .number) (fills (finishedSession (a .s)) 0 []) _ _ (r .check-record-c .ensures) (c .before .before .if1 .left))
 
 pub finish-sheet-spec : {M : Type 1} → statement M

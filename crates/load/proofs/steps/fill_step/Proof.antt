@@ -1,18 +1,24 @@
 -- A good block: filled, and closed where its last post is read.
+use mathlib.Core.Bool.{cond}
 use mathlib.Core.Path.{_≡_, _∙_, ap, ap₂}
 use Prim.Native.Nat.{_-_}
 use native.Mathlib.Omega.{arith}
+use Rattle.session.specs.declared.Session.{Session}
 use Rattle.session.specs.Session.{openBlocks}
 use Rattle.delivery.specs.Deliver.{closeFault, closedSession}
 use Rattle.gate.specs.Gate.{taken}
-use Rattle.load.specs.Steps.{filledWith}
-use Rattle.load.proofs.Filled.{fill-more, fill-last, fill-broken}
+use Rattle.progress.specs.Progress.{small, filledWith}
+use Rattle.progress.proofs.Counts.{goes-on}
+use Rattle.load.proofs.Filled.{filled-on, fill-more, fill-last, fill-broken}
 use borrow.Author.Needs.{needs}
 use Rattle.load.proofs.steps.fill_step.Statement.{statement}
 use Rattle.load.proofs.steps.fill_step.Tie as tie
 
 fill-session-requires : tie.Need-fill-session-requires
 fill-session-requires c κs = search needs
+
+after-is : (c : tie.After-fill-session) → c .fill-session .result ≡ filledWith (c .before .args .s) (c .before .args .column) (c .before .args .p) (c .before .args .n) (c .before .args .u)
+after-is c = let a = c .before .args in c .fill-session .ensures ∙ filled-on (a .s) (a .column) (a .p) (a .n) (a .u) (c .before .pre .0)
 
 next-cell-requires : tie.Need-next-cell-requires
 next-cell-requires c κs = search needs
@@ -28,7 +34,7 @@ returns c hs e f =
     let n = c .before .before .before .before in
     let a = n .before .before .args in
     c .taken .ensures
-    ∙ (λ j. taken (n .before .fill-session .ensures j) 0 (n .next-cell .ensures j) (a .n))
+    ∙ (λ j. taken (after-is (n .before) j) 0 (n .next-cell .ensures j) (a .n))
     ∙ fill-more (a .s) (a .number) (a .column) (a .p) (a .n) (a .u) hs e f (c .before .if1 .taken)
 
 open-blocks-requires : tie.Need-open-blocks-requires
@@ -48,7 +54,7 @@ fault-is : (k : tie.After-close-fault)
     → k .close-fault .result ≡ closeFault (k .before .before .before .before .before .before .before .args .number - openBlocks (k .before .before .before .before .before .before .before .args .s)) (filledWith (k .before .before .before .before .before .before .before .args .s) (k .before .before .before .before .before .before .before .args .column) (k .before .before .before .before .before .before .before .args .p) (k .before .before .before .before .before .before .before .args .n) (k .before .before .before .before .before .before .before .args .u))
 fault-is k =
     let f = k .before .before .before .before .before .before in
-    k .close-fault .ensures ∙ ap₂ closeFault (ap (λ x. f .before .args .number - x) (k .before .open-blocks .ensures)) (f .fill-session .ensures)
+    k .close-fault .ensures ∙ ap₂ closeFault (ap (λ x. f .before .args .number - x) (k .before .open-blocks .ensures)) (after-is f)
 
 returns-2 : tie.Need-returns-2
 returns-2 c hs e f =
@@ -58,13 +64,17 @@ returns-2 c hs e f =
     ∙ fill-broken (a .s) (a .number) (a .column) (a .p) (a .n) (a .u) hs e f (k .before .before .if1 .left) (k .close-fault .result) (fault-is k) (c .before .if2 .taken)
 
 close-session-requires : tie.Need-close-session-requires
-close-session-requires c κs =
-    let f = c .before .before .before .before .before .before .before .before in
-    let q = f .before .pre in
-    rw (f .fill-session .ensures) (omega (arith, q .1 .not-last, q .0 .ready .profiles-most))
+close-session-requires c κs = search needs
 
 taken-requires-2 : tie.Need-taken-requires-2
 taken-requires-2 c κs = search needs
+
+closed-is : (c : tie.After-fill-session)
+    → cond (small (c .fill-session .result .closed)) (closedSession (c .fill-session .result)) (c .fill-session .result) ≡ closedSession (filledWith (c .before .args .s) (c .before .args .column) (c .before .args .p) (c .before .args .n) (c .before .args .u))
+closed-is c =
+    let q = c .before .pre in
+    ap (λ (x : Session). cond (small (x .closed)) (closedSession x) x) (after-is c)
+    ∙ goes-on (c .before .args .s .closed) _ _ (omega (arith, q .1 .not-last, q .0 .ready .profiles-most))
 
 returns-3 : tie.Need-returns-3
 returns-3 c hs e f =
@@ -72,7 +82,7 @@ returns-3 c hs e f =
     let n = k .before .before .before .before .before in
     let a = n .before .before .args in
     c .taken2 .ensures
-    ∙ (λ j. taken ((c .before .close-session .ensures ∙ ap closedSession (n .before .fill-session .ensures)) j) 0 (n .next-cell .ensures j) (a .n))
+    ∙ (λ j. taken ((c .before .close-session .ensures ∙ closed-is (n .before)) j) 0 (n .next-cell .ensures j) (a .n))
     ∙ fill-last (a .s) (a .number) (a .column) (a .p) (a .n) (a .u) hs e f (k .before .before .if1 .left) (k .close-fault .result) (fault-is k) (c .before .before .if2 .left)
 
 pub fill-step-spec : {M : Type 1} → statement M
