@@ -1,13 +1,15 @@
--- A good block's step is the definition's verdict, and its cells are cells of the sheet.
+-- A good block comes to the definition's verdict, and its cells are cells of the sheet.
 use mathlib.Core.List.{List}
-use mathlib.Core.Path.{_≡_, refl, sym, _∙_}
-use Prim.Native.Nat.{ℕ, _+_, _-_, _*_, _≤_}
+use mathlib.Core.Path.{_≡_, sym, _∙_}
+use Prim.Native.Nat.{ℕ, _+_, _-_, _*_, _≤_, _<_}
 use lib.IntN.{ℤ}
 use lib.ListN.{length, take}
-use mathlib.Core.Bool.{Bool, true, false, cond}
-use lib.Dec.{eqb, ltb}
+use mathlib.Core.Bool.{false, cond}
+use lib.Dec.{ltb, eqb}
+use borrow.Author.Tests.{eq-eqb, ne-eqb, lt-ltb, le-ltb}
 use native.Mathlib.Nat.{mul-le-mul-right, add-mul}
 use native.Mathlib.Omega.{arith}
+use Rattle.laws.proofs.Tests.{by-test}
 use Rattle.frame.specs.Frame.{columnsOf, rowsOf, cellsOf}
 use Rattle.session.specs.declared.Profile.{Profile}
 use Rattle.session.specs.declared.Session.{Session}
@@ -15,9 +17,12 @@ use Rattle.session.specs.Session.{openBlocks}
 use Rattle.ground.specs.Posts.{noTally, tallyAll}
 use Rattle.ground.specs.declared.Tally.{Tally}
 use Rattle.ground.proofs.MergedTallies.{tally-merged}
-use Rattle.delivery.specs.Deliver.{filledSession, sheetTally, profileTally, closedSession, closeFault, closeVerdict, fills, Verdict, filling, nextCell}
-use Rattle.load.specs.Steps.{filledWith, closeStep, stepVerdict, fillStep, Placing}
-use Rattle.load.specs.declared.steps.Step.the-variants.{Wrong, Fills}
+use Rattle.delivery.specs.Deliver.{filledSession, sheetTally, profileTally, closedSession, closeFault, closeVerdict, fills, wrong, Verdict, filling, nextCell}
+use Rattle.delivery.specs.declared.Refusal.{Refusal}
+use Rattle.gate.specs.Gate.{taken, judgedOf}
+use Rattle.progress.specs.Progress.{countable, filledWith}
+use Rattle.progress.proofs.Counts.{is-countable}
+use Rattle.load.specs.Steps.{Filling, Lies, Placing}
 
 filled-same : (s : Session) (column : ℕ) (p : Profile) (hs : List ℤ)
     → filledSession s column p hs ≡ filledWith s column p (length hs) (tallyAll noTally hs)
@@ -47,61 +52,72 @@ filled-same s column p hs =
           };
     }
 
--- a step, for any session it may leave
-step-verdict : (s : Session) (number : ℕ) (after : Session) (at n : ℕ) (scratch : List ℤ)
-    → stepVerdict scratch (closeStep s number after at n)
-    ≡ closeVerdict (closeFault (number - openBlocks s) after) (fills (closedSession after) at (take n scratch))
-step-verdict s number after at n scratch = go (eqb (closeFault (number - openBlocks s) after .kind) 0) refl
-  where
-    go : (b : Bool) → eqb (closeFault (number - openBlocks s) after .kind) 0 ≡ b
-        → stepVerdict scratch (closeStep s number after at n)
-        ≡ closeVerdict (closeFault (number - openBlocks s) after) (fills (closedSession after) at (take n scratch))
-    go true e = rw e
-    go false e = rw e
+-- a block's counts are gone on from
+pub filled-on : (s : Session) (column : ℕ) (p : Profile) (n : ℕ) (u : Tally) → Filling s p n u
+    → cond (countable s p n u) (filledWith s column p n u) s ≡ filledWith s column p n u
+filled-on s column p n u k =
+    rw
+    (is-countable s p n u
+    (record {
+      taken = omega (arith, k .ready .taken-most);
+      posts = omega (arith, k .ready .posts-most);
+      filled = omega (arith, k .ready .filled-most, k .ready .posts-most);
+      read = omega arith;
+      profile-filled = omega arith;
+      more = omega arith;
+      more-filled = omega arith;
+    }))
 
 module _ (s : Session) (number column : ℕ) (p : Profile) where
-  abbrev filledTo : Session → ℕ → List ℤ → Verdict
-  filledTo after n hs =
-      cond (ltb (p .read + n) (p .posts)) (fills after (nextCell s column p) hs)
+  -- the verdict, for any session that a block may leave
+  abbrev filledTo : Session → List ℤ → Verdict
+  filledTo after hs =
+      cond (ltb (p .read + length hs) (p .posts)) (fills after (nextCell s column p) hs)
       (closeVerdict (closeFault (number - openBlocks s) after) (fills (closedSession after) (nextCell s column p) hs))
 
-  fill-any : (n : ℕ) (after : Session) (scratch : List ℤ)
-      → stepVerdict scratch (cond (ltb (p .read + n) (p .posts)) (Fills after (nextCell s column p) n) (closeStep s number after (nextCell s column p) n))
-      ≡ cond (ltb (p .read + n) (p .posts)) (fills after (nextCell s column p) (take n scratch))
-      (closeVerdict (closeFault (number - openBlocks s) after) (fills (closedSession after) (nextCell s column p) (take n scratch)))
-  fill-any n after scratch = go (ltb (p .read + n) (p .posts)) refl
-    where
-      go : (b : Bool) → ltb (p .read + n) (p .posts) ≡ b
-          → stepVerdict scratch (cond (ltb (p .read + n) (p .posts)) (Fills after (nextCell s column p) n) (closeStep s number after (nextCell s column p) n))
-          ≡ cond (ltb (p .read + n) (p .posts)) (fills after (nextCell s column p) (take n scratch))
-          (closeVerdict (closeFault (number - openBlocks s) after) (fills (closedSession after) (nextCell s column p) (take n scratch)))
-      go true e = rw e
-      go false e = rw e (step-verdict s number after (nextCell s column p) n scratch)
+  module _ (n : ℕ) (u : Tally) (hs : List ℤ) (e : n ≡ length hs) (f : u ≡ tallyAll noTally hs) where
+    -- the session is the definition's
+    same : judgedOf s (filledTo (filledWith s column p n u) hs) ≡ judgedOf s (filling s number column p hs)
+    same = λ j. judgedOf s (filledTo (((λ i. filledWith s column p (e i) (f i)) ∙ sym (filled-same s column p hs)) j) hs)
 
-  pub fill-verdict : (n : ℕ) (u : Tally) (hs scratch : List ℤ) → n ≡ length hs → u ≡ tallyAll noTally hs → take n scratch ≡ hs
-      → stepVerdict scratch (fillStep s number column p n u) ≡ filling s number column p hs
-  fill-verdict n u hs scratch e f g =
-      let same : filledWith s column p n u ≡ filledSession s column p hs =
-      (λ j. filledWith s column p (e j) (f j)) ∙ sym (filled-same s column p hs)
-      in
-      fill-any n (filledWith s column p n u) scratch ∙ (λ j. filledTo (same j) (e j) (g j))
+    counted : (after : Session) → taken after 0 (nextCell s column p) n ≡ taken after 0 (nextCell s column p) (length hs)
+    counted after = λ j. taken after 0 (nextCell s column p) (e j)
 
-  -- whatever a step fills is the profile's next cells
-  pub fill-at : (n : ℕ) (u : Tally) (next : Session) (at m : ℕ) → fillStep s number column p n u ≡ Fills next at m
-      → (at ≡ nextCell s column p) × (m ≡ n)
-  fill-at n u next at m = go (ltb (p .read + n) (p .posts)) refl (eqb (closeFault (number - openBlocks s) (filledWith s column p n u) .kind) 0) refl
+    -- a good block: more posts to come, or its profile closes, or breaks a closing rule
+    pub fill-more : p .read + n < p .posts
+        → taken (filledWith s column p n u) 0 (nextCell s column p) n ≡ judgedOf s (filling s number column p hs)
+    fill-more h = counted (filledWith s column p n u) ∙ go (filledWith s column p n u) ∙ same
+      where
+        go : (after : Session) → taken after 0 (nextCell s column p) (length hs) ≡ judgedOf s (filledTo after hs)
+        go after = sym (rw (lt-ltb (p .read + length hs) (p .posts) (omega (arith, h, e))))
+
+    module _ (h : p .posts ≤ p .read + n) (r : Refusal) (is : r ≡ closeFault (number - openBlocks s) (filledWith s column p n u)) where
+      last : ltb (p .read + length hs) (p .posts) ≡ false
+      last = le-ltb (p .read + length hs) (p .posts) (omega (arith, h, e))
+
+      pub fill-last : r .kind ≡ 0
+          → taken (closedSession (filledWith s column p n u)) 0 (nextCell s column p) n ≡ judgedOf s (filling s number column p hs)
+      fill-last z = counted (closedSession (filledWith s column p n u)) ∙ go (filledWith s column p n u) is ∙ same
+        where
+          go : (after : Session) → r ≡ closeFault (number - openBlocks s) after
+              → taken (closedSession after) 0 (nextCell s column p) (length hs) ≡ judgedOf s (filledTo after hs)
+          go after x = sym (rw (last, ← x, eq-eqb (r .kind) 0 z))
+
+      pub fill-broken : (r .kind ≡ 0 → ⊥) → judgedOf s (wrong (r .kind) (r .block) (r .byte)) ≡ judgedOf s (filling s number column p hs)
+      fill-broken z = go (filledWith s column p n u) is ∙ same
+        where
+          go : (after : Session) → r ≡ closeFault (number - openBlocks s) after
+              → judgedOf s (wrong (r .kind) (r .block) (r .byte)) ≡ judgedOf s (filledTo after hs)
+          go after x = sym (rw (last, ← x, ne-eqb (r .kind) 0 z))
+
+  pub filling-lies : (hs : List ℤ) (cells : ℕ) (scratch : List ℤ)
+      → (nextCell s column p + length hs ≤ cells) × (take (length hs) scratch ≡ hs) → Lies cells scratch (filling s number column p hs)
+  filling-lies hs cells scratch k = go (filledSession s column p hs)
     where
-      go : (b : Bool) → ltb (p .read + n) (p .posts) ≡ b
-          → (c : Bool) → eqb (closeFault (number - openBlocks s) (filledWith s column p n u) .kind) 0 ≡ c
-          → fillStep s number column p n u ≡ Fills next at m → (at ≡ nextCell s column p) × (m ≡ n)
-      go true e c f q =
-          let w : Fills (filledWith s column p n u) (nextCell s column p) n ≡ Fills next at m = rw e at q in (cc, cc)
-      go false e true f q =
-          let w : Fills (closedSession (filledWith s column p n u)) (nextCell s column p) n ≡ Fills next at m = rw (e, f) at q in (cc, cc)
-      go false e false f q =
-          let r = closeFault (number - openBlocks s) (filledWith s column p n u) in
-          let w : Wrong (r .kind) (r .block) (r .byte) ≡ Fills next at m = rw (e, f) at q in
-          let z : _≡_ {A = ℕ} 0 1 = cc in absurd (omega arith)
+      go : (after : Session) → Lies cells scratch (filledTo after hs)
+      go after =
+          by-test (ltb (p .read + length hs) (p .posts)) (λ e. rw e k)
+          (λ e. by-test (eqb (closeFault (number - openBlocks s) after .kind) 0) (λ f. rw (e, f) k) (λ f. rw (e, f) tt))
 
   pub cell-room : Placing s number column p → (n : ℕ) → p .read + n ≤ p .posts → nextCell s column p + n ≤ cellsOf (s .header)
   cell-room g n h =

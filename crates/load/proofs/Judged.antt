@@ -1,44 +1,52 @@
--- A block of a profile judged: a fault is its refusal, and without one its step is the definition's verdict.
+-- A block of a profile judged: a fault is its refusal, and without one it comes to the definition's verdict.
 use mathlib.Core.List.{List, []}
-use mathlib.Core.Path.{_≡_, sym, _∙_, ap, refl, subst⁻¹}
+use mathlib.Core.Path.{_≡_, sym, _∙_, ap, refl, subst}
 use Prim.Native.Nat.{ℕ, _≤_, _<_, _+_, min}
 use native.Mathlib.Omega.{arith}
-use lib.IntN.{ℤ, natAbs}
-use lib.ListN.{length}
+use lib.IntN.{ℤ}
+use lib.ListN.{length, take}
 use mathlib.Core.Bool.{true, false, Bool, cond, not}
-use borrow.Author.Tests.{eq-eqb, ne-eqb, lt-ltb, le-ltb}
+use borrow.Author.Tests.{eq-eqb, ne-eqb, lt-ltb, le-ltb, ltb-false}
 use lib.Dec.{eqb, ltb}
+use Rattle.laws.proofs.Tests.{by-test}
 use Rattle.field.specs.Field.{fault}
 use Rattle.field.specs.declared.Fault.{Fault}
 use Rattle.frame.specs.Frame.{zOf, cellsOf}
 use Rattle.profile.specs.RecordB.{recordB}
 use Rattle.profile.specs.declared.record_b.Head.{Head}
 use Rattle.profile.specs.RecordC.{recordC}
+use Rattle.sheet.specs.declared.Checked.{Checked}
+use Rattle.sheet.specs.declared.Checked.the-variants.{Sheet, Refused as NoSheet}
 use Rattle.session.specs.Session.{busy}
 use Rattle.session.specs.declared.Session.{Session}
 use Rattle.session.specs.declared.Profile.{Profile}
-use Rattle.ground.specs.declared.Tally.{Tally}
 use Rattle.ground.specs.Posts.{noTally, tallyAll, heights, postsOf, blockFault}
-use Rattle.ground.proofs.PostsRead.{scan-few, scan-fair, posts-length}
-use Rattle.ground.proofs.Tallies.{none-fair}
+use Rattle.ground.proofs.PostsRead.{scan-few, posts-length}
 use Rattle.ground.proofs.Heights.{heights-length}
 use Rattle.posts.specs.Steps.{BlockScanned}
 use Rattle.posts.specs.declared.Scan.{Scan}
-use Rattle.delivery.specs.Deliver.{Verdict, wrong, unless, filling, heightsHere, nextCell, fills, finishedSession, further, opening, later, postsHere, openingWith, placed, firstColumn, opened}
-use Rattle.load.specs.Steps.{Stepped, Ready, fillStep, stepVerdict, Filling, Placing, finishStep}
-use Rattle.load.specs.declared.steps.Step.the-variants.{Wrong, Fills}
-use Rattle.load.specs.declared.steps.Step.{Step}
-use Rattle.load.proofs.Filled.{fill-verdict, fill-at, cell-room}
+use Rattle.delivery.specs.Deliver.{Verdict, Room, tooShort, again, wrong, begins, beginning, unless, filling, heightsHere, fills, finishedSession, further, opening, later, postsHere, openingWith, placed, firstColumn, opened}
+use Rattle.gate.specs.Gate.{judgedOf}
+use Rattle.gate.specs.declared.verdict.Judged.{Judged}
+use Rattle.load.specs.Steps.{Judging, Lies, ByTally, Ready, Filling, Placing}
+use Rattle.load.proofs.Filled.{filling-lies, cell-room}
 
--- a refusal fills no cell
-pub refused-step : (s : Session) (v : Verdict) (before after : List ℤ) (kind block byte : ℕ) → length after ≡ length before
-    → wrong kind block byte ≡ v → Stepped s v before after (Wrong kind block byte)
-refused-step s v before after kind block byte k e =
-    record {
-      verdict-is = e;
-      kept = k;
-      fits = λ next at n q. let z : _≡_ {A = ℕ} 0 1 = cc in absurd (omega arith);
-    }
+-- a block judged for one verdict is judged for the same verdict in another form
+pub same-judging : {s : Session} {v w : Verdict} {cells : ℕ} {scratch : List ℤ} {j : Judged} → v ≡ w → Judging s v cells scratch j
+    → Judging s w cells scratch j
+same-judging {s} {v} {w} {cells} {scratch} e k =
+    record { judged-is = k .judged-is ∙ ap (judgedOf s) e; lies = subst (Lies cells scratch) e (k .lies) }
+
+-- what has room in few cells has it in more
+pub lies-more : (v : Verdict) (few cells : ℕ) (scratch : List ℤ) → few ≤ cells → Lies few scratch v → Lies cells scratch v
+lies-more again few cells scratch h k = tt
+lies-more (wrong kind block byte) few cells scratch h k = tt
+lies-more (begins head) few cells scratch h k = omega arith
+lies-more (fills after at hs) few cells scratch h k = (omega (arith, h, k .0), k .1)
+
+pub first-lies : (m : Room) (a : Checked) (scratch : List ℤ) → Lies (m .cells) scratch (beginning m a)
+first-lies m (NoSheet kind byte) scratch = tt
+first-lies m (Sheet h) scratch = by-test (tooShort m h) (λ e. rw e tt) (λ e. rw e (ltb-false (m .cells) (cellsOf h) e))
 
 module _ (f : Fault) (number : ℕ) (v : Verdict) (kind byte : ℕ) (is : fault kind byte ≡ f) where
   pub fault-refused : (kind ≡ 0 → ⊥) → wrong kind number byte ≡ unless f number v
@@ -70,25 +78,16 @@ module _ (s : Session) (number : ℕ) (block : List ℕ) (n kind byte : ℕ) whe
         ≡ openingWith s number block head
     opening-fine h = rw (← e) (fault-none (blockFault 145 n block) number _ kind byte is h)
 
--- the tally of a block scanned without fault
-pub record SmallTally (n : ℕ) (u : Tally) : Type 0 where
-  pub count : u .filled ≤ n
-
-pub scanned-tally : (s : Session) (datum : ℤ) (byte n : ℕ) (block : List ℕ) (before after : List ℤ) (r : Scan)
-    → BlockScanned block byte n (zOf (s .header)) datum before after r → r .kind ≡ 0 → Ready s → natAbs datum ≤ 1000000
-    → SmallTally n (r .tally)
-scanned-tally s datum byte n block before after r sc e ready most =
-    let hs = heights (zOf (s .header)) datum (postsOf n byte block) in
-    let fair = scan-fair n byte block (zOf (s .header)) datum noTally (sc .posts-fine e) (ready .z-most) most none-fair in
-    let few : tallyAll noTally hs .filled ≤ 0 + n = scan-few n byte block (zOf (s .header)) datum noTally in
-    record {
-      count = rw (sc .tally-is e) (omega arith);
-    }
+-- a block scanned without fault fills no more cells than it has posts
+pub scanned-count : (s : Session) (datum : ℤ) (byte n : ℕ) (block : List ℕ) (before after : List ℤ) (r : Scan)
+    → BlockScanned block byte n (zOf (s .header)) datum before after r → r .kind ≡ 0 → r .tally .filled ≤ n
+scanned-count s datum byte n block before after r sc e =
+    let few : tallyAll noTally (heights (zOf (s .header)) datum (postsOf n byte block)) .filled ≤ 0 + n = scan-few n byte block (zOf (s .header)) datum noTally in
+    rw (sc .tally-is e) (omega arith)
 
 -- what is known of a profile whose next n posts were scanned without fault
 pub record Scannable (s : Session) (p : Profile) (n : ℕ) : Type 0 where
   pub ready : Ready s
-  pub datum-most : natAbs (p .datum) ≤ 1000000
   pub read-most : p .read + n ≤ p .posts
   pub posts-most : p .posts ≤ 2048
   pub filled-most : p .filled ≤ p .read
@@ -97,37 +96,28 @@ module _ (s : Session) (p : Profile) (byte n : ℕ) (block : List ℕ) (before a
     (sc : BlockScanned block byte n (zOf (s .header)) (p .datum) before after r) (e : r .kind ≡ 0) (k : Scannable s p n) where
   pub scanned-filling : Filling s p n (r .tally)
   scanned-filling =
-      let f = scanned-tally s (p .datum) byte n block before after r sc e (k .ready) (k .datum-most) in
       record {
         ready = k .ready;
-        count = f .count;
+        count = scanned-count s (p .datum) byte n block before after r sc e;
         read-most = k .read-most;
         posts-most = k .posts-most;
         filled-most = k .filled-most;
       }
 
-  module _ (number column : ℕ) (g : Placing s number column p) (few : n ≤ 170) (st : Step)
-      (is : st ≡ fillStep s number column p n (r .tally)) where
-    pub filled-step : (v : Verdict) → filling s number column p (heightsHere s p byte n block) ≡ v → Stepped s v before after st
-    filled-step v q =
-        let hs = heights (zOf (s .header)) (p .datum) (postsOf n byte block) in
-        let long : n ≡ length hs = sym (heights-length (zOf (s .header)) (p .datum) (postsOf n byte block) ∙ posts-length n byte block) in
-        record {
-          verdict-is =
-              ap (stepVerdict after) is
-              ∙ fill-verdict s number column p n (r .tally) hs after long (sc .tally-is e) (sc .heights-are e)
-              ∙ q;
-          kept = sc .kept;
-          fits = λ next at m w. fits (fill-at s number column p n (r .tally) next at m (sym is ∙ w));
-        }
-      where
-        fits : {at m : ℕ} → (at ≡ nextCell s column p) × (m ≡ n) → (m ≤ 170) × (at + m ≤ cellsOf (s .header))
-        fits w = (omega arith, omega (arith, w .0, w .1, cell-room s number column p g n (k .read-most)))
+  -- its posts' heights, and what is judged of any heights is judged of them
+  counted : n ≡ length (heightsHere s p byte n block)
+  counted = sym (heights-length (zOf (s .header)) (p .datum) (postsOf n byte block) ∙ posts-length n byte block)
 
--- a step judged for one verdict is judged for the same verdict in another form
-pub same-step : (s : Session) {v w : Verdict} (before after : List ℤ) {r : Step} → v ≡ w → Stepped s v before after r
-    → Stepped s w before after r
-same-step s before after e st = record { verdict-is = st .verdict-is ∙ e; kept = st .kept; fits = st .fits }
+  pub by-heights : (v : List ℤ → Verdict) (j : Judged) → ByTally s v n (r .tally) j → j ≡ judgedOf s (v (heightsHere s p byte n block))
+  by-heights v j b = b (heightsHere s p byte n block) counted (sc .tally-is e)
+
+  pub filled-lies : (number column : ℕ) → Placing s number column p
+      → Lies (cellsOf (s .header)) after (filling s number column p (heightsHere s p byte n block))
+  filled-lies number column g =
+      filling-lies s number column p (heightsHere s p byte n block) (cellsOf (s .header)) after (
+        omega (arith, counted, cell-room s number column p g n (k .read-most)),
+        ap (λ (m : ℕ). take m after) (sym counted) ∙ sc .heights-are e,
+      )
 
 -- which of a later block's three ways is gone
 pick-first : (b : Bool) (x y : Verdict) → b ≡ true → x ≡ cond b x y
@@ -156,25 +146,6 @@ module _ (s : Session) (number : ℕ) (block : List ℕ) where
         pick-second (ltb (s .closed) (s .header .profiles)) (opening s number block (recordB (s .closed + 1) block)) _ (le-ltb (s .closed) (s .header .profiles) h)
         ∙ pick-second (busy s) (further s number block) _ idle-is
 
-pub finish-stepped : (s : Session) (number : ℕ) (block : List ℕ) (scratch : List ℤ) (st : Step) → st ≡ finishStep s number block
-    → Stepped s (unless (recordC block) number (fills (finishedSession s) 0 [])) scratch scratch st
-finish-stepped s number block scratch st is = go (eqb (recordC block .kind) 0) refl
-  where
-    go : (b : Bool) → eqb (recordC block .kind) 0 ≡ b
-        → Stepped s (unless (recordC block) number (fills (finishedSession s) 0 [])) scratch scratch st
-    go true e =
-        let w : st ≡ Fills (finishedSession s) 0 0 = is ∙ rw e in
-        record {
-          verdict-is = ap (stepVerdict scratch) w ∙ sym (rw e);
-          kept = refl;
-          fits =
-              λ next at n q.
-              let z : Fills (finishedSession s) 0 0 ≡ Fills next at n = sym w ∙ q in
-              let x : 0 ≡ at = cc in
-              let y : 0 ≡ n = cc in
-              (omega arith, omega arith);
-        }
-    go false e =
-        let w : st ≡ Wrong (recordC block .kind) number (recordC block .byte) = is ∙ rw e in
-        subst⁻¹ (Stepped s _ scratch scratch) w
-        (refused-step s _ scratch scratch (recordC block .kind) number (recordC block .byte) refl (sym (rw e)))
+pub finish-lies : (s : Session) (number : ℕ) (block : List ℕ) (cells : ℕ) (scratch : List ℤ)
+    → Lies cells scratch (unless (recordC block) number (fills (finishedSession s) 0 []))
+finish-lies s number block cells scratch = by-test (eqb (recordC block .kind) 0) (λ e. rw e (omega arith, refl)) (λ e. rw e tt)

@@ -1,7 +1,5 @@
-pub mod Merging
 pub mod Filled
 pub mod Judged
 pub mod Placed
 pub mod Readiness
-pub mod Gates
-pub mod Answers
+pub mod Applied

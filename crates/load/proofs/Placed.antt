@@ -1,43 +1,44 @@
 -- A profile that opens: what its place gives the code, and the order of its last rules.
 use mathlib.Core.Bool.{false, Bool, true, cond}
-use mathlib.Core.Path.{_≡_, refl, sym, _∙_, ap, subst⁻¹}
+use mathlib.Core.Path.{_≡_, sym, subst}
 use mathlib.Core.List.{List}
-use Prim.Native.Nat.{ℕ, _≤_}
+use Prim.Native.Nat.{ℕ}
 use native.Mathlib.Omega.{arith}
-use lib.IntN.{ℤ, natAbs}
-use Rattle.frame.specs.Frame.{zOf}
+use lib.IntN.{ℤ}
+use Rattle.laws.proofs.Tests.{by-test}
 use Rattle.profile.specs.declared.record_b.Head.{Head}
 use Rattle.session.specs.Session.{busy, openBlocks}
 use Rattle.session.specs.declared.Session.{Session}
 use Rattle.ground.specs.declared.Tally.{Tally}
-use Rattle.posts.specs.Steps.{BlockScanned}
-use Rattle.posts.specs.declared.Scan.{Scan}
-use Rattle.delivery.specs.Deliver.{columnFits, columnPlace, rowFits, rowPlace, firstColumn, opened, placed, filling, heightsHere}
+use Rattle.delivery.specs.Deliver.{Verdict, wrong, columnFits, columnPlace, rowFits, rowPlace, firstColumn, opened, placed}
 use Rattle.delivery.proofs.Placed.{row-room, column-room}
-use Rattle.load.specs.Steps.{Filling, Placing, Placeable, Stepped, fillStep, placeStep}
-use Rattle.load.specs.declared.steps.Step.{Step}
-use Rattle.load.specs.declared.steps.Step.the-variants.{Wrong}
-use Rattle.load.proofs.Judged.{refused-step, filled-step}
+use Rattle.load.specs.Steps.{Filling, Placing, Placeable, Lies}
 
-pub no-blocks : (s : Session) → busy s ≡ false → openBlocks s ≡ 0
+no-blocks : (s : Session) → busy s ≡ false → openBlocks s ≡ 0
 no-blocks s e = rw e
 
 -- which of a first block's three ways is gone
-module _ (s : Session) (number : ℕ) (h : Head) (n : ℕ) (u : Tally) where
-  abbrev placeBy : Bool → Bool → Step
-  placeBy east north =
-      cond east (cond north (fillStep s number (firstColumn s h) (opened s h) n u) (Wrong 10 number 49)) (Wrong 10 number 25)
+module _ (s : Session) (number : ℕ) (h : Head) (v : Verdict) where
+  abbrev placeBy : Bool → Bool → Verdict
+  placeBy east north = cond east (cond north v (wrong 10 number 49)) (wrong 10 number 25)
 
-  pub place-column : columnFits s (columnPlace s h) ≡ false → Wrong 10 number 25 ≡ placeStep s number h n u
+  pub place-column : columnFits s (columnPlace s h) ≡ false → wrong 10 number 25 ≡ placed s number h v
   place-column p = λ j. placeBy (sym p j) (rowFits s (h .posts) (rowPlace s h))
 
   pub place-row : columnFits s (columnPlace s h) ≡ true → rowFits s (h .posts) (rowPlace s h) ≡ false
-      → Wrong 10 number 49 ≡ placeStep s number h n u
+      → wrong 10 number 49 ≡ placed s number h v
   place-row p q = λ j. placeBy (sym p j) (sym q j)
 
-  pub place-good : columnFits s (columnPlace s h) ≡ true → rowFits s (h .posts) (rowPlace s h) ≡ true
-      → fillStep s number (firstColumn s h) (opened s h) n u ≡ placeStep s number h n u
+  pub place-good : columnFits s (columnPlace s h) ≡ true → rowFits s (h .posts) (rowPlace s h) ≡ true → v ≡ placed s number h v
   place-good p q = λ j. placeBy (sym p j) (sym q j)
+
+  pub placed-lies : (cells : ℕ) (scratch : List ℤ)
+      → (columnFits s (columnPlace s h) ≡ true → rowFits s (h .posts) (rowPlace s h) ≡ true → Lies cells scratch v)
+      → Lies cells scratch (placed s number h v)
+  placed-lies cells scratch k =
+      by-test (columnFits s (columnPlace s h))
+      (λ p. by-test (rowFits s (h .posts) (rowPlace s h)) (λ q. subst (Lies cells scratch) (place-good p q) (k p q)) (λ q. subst (Lies cells scratch) (place-row p q) tt))
+      (λ p. subst (Lies cells scratch) (place-column p) tt)
 
 module _ (s : Session) (number : ℕ) (h : Head) (n : ℕ) (u : Tally) (k : Placeable s number h n u) where
   pub opened-filling : Filling s (opened s h) n u
@@ -60,33 +61,3 @@ module _ (s : Session) (number : ℕ) (h : Head) (n : ℕ) (u : Tally) (k : Plac
         row-room = row-room s (h .posts) (rowPlace s h) r;
         blocks = omega (arith, no-blocks s (k .idle));
       }
-
-  -- a first block whose posts are good is placed and filled, or refused for its place
-  module _ (byte : ℕ) (block : List ℕ) (before after : List ℤ) (r : Scan) (tally : r .tally ≡ u)
-      (sc : BlockScanned block byte n (zOf (s .header)) (h .datum) before after r) (e : r .kind ≡ 0)
-      (datum : natAbs (h .datum) ≤ 1000000) (few : n ≤ 170) (st : Step) (is : st ≡ placeStep s number h n u) where
-    pub placed-step :
-        Stepped s (placed s number h (filling s number (firstColumn s h) (opened s h) (heightsHere s (opened s h) byte n block))) before after st
-    placed-step = go (columnFits s (columnPlace s h)) refl (rowFits s (h .posts) (rowPlace s h)) refl
-      where
-        go : (b : Bool) → columnFits s (columnPlace s h) ≡ b → (c : Bool) → rowFits s (h .posts) (rowPlace s h) ≡ c
-            → Stepped s (placed s number h (filling s number (firstColumn s h) (opened s h) (heightsHere s (opened s h) byte n block))) before after st
-        go false p c q =
-            let w : st ≡ Wrong 10 number 25 = is ∙ rw p in
-            subst⁻¹ (Stepped s _ before after) w (refused-step s _ before after 10 number 25 (sc .kept) (sym (rw p)))
-        go true p false q =
-            let w : st ≡ Wrong 10 number 49 = is ∙ rw (p, q) in
-            subst⁻¹ (Stepped s _ before after) w (refused-step s _ before after 10 number 49 (sc .kept) (sym (rw (p, q))))
-        go true p true q =
-            filled-step s (opened s h) byte n block before after r sc e
-            (record {
-              ready = k .ready;
-              datum-most = datum;
-              read-most = omega (arith, k .within);
-              posts-most = k .posts-most;
-              filled-most = omega arith;
-            })
-            number (firstColumn s h) (opened-placing p q) few st
-            (is ∙ rw (p, q) (ap (fillStep s number (firstColumn s h) (opened s h) n) (sym tally)))
-            _
-            (sym (rw (p, q)))

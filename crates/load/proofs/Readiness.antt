@@ -1,4 +1,4 @@
--- What a sound session with block 0 taken gives the code, and what a good block 0 does.
+-- What a sound session with block 0 taken gives the code.
 use mathlib.Core.Bool.{true}
 use mathlib.Core.Path.{_≡_}
 use Prim.Native.Nat.{_≤_}
@@ -33,12 +33,9 @@ ready-of s t h =
             posts-most = p .posts;
             row-room = p .room;
             datum-most = p .datum;
-            read-from = p .first;
             read-below = p .more;
             filled-most = f .profile-filled b;
             column-room = f .column-open b;
             not-last = f .below b;
           };
     }
-
--- ---- a good block 0

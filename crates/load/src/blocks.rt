@@ -1,22 +1,27 @@
 // A later block judged whole: posts, blanks and places first, then the session after it.
 use crate::steps;
-use crate::steps::Step;
+use gate::verdict;
+use gate::verdict::Judged;
 use ground::Tally;
 use profile::record_b::Head;
 use profile::record_b::Headed;
 use session::Session;
 ghost use mathlib.Core.Path.{_≡_};
 ghost use mathlib.Core.Bool.{false};
+ghost use mathlib.Core.List.{[]};
 ghost use Prim.Native.Nat.{_+_, _≤_, _<_};
-ghost use Rattle.load.specs.Steps.{Opened, Opening, Placeable, Next, Stepped, placeStep, finishStep};
-ghost use Rattle.delivery.specs.Deliver.{further, openingWith, opening, finishedSession, later};
+ghost use Rattle.load.specs.Steps.{Opened, Opening, Placeable, Next, Judging, ByTally};
+ghost use Rattle.delivery.specs.Deliver.{further, openingWith, opening, placed, filling, firstColumn, opened, unless, fills, finishedSession, later};
+ghost use Rattle.frame.specs.Frame.{cellsOf};
+ghost use Rattle.gate.specs.Gate.{judgedOf};
 ghost use Rattle.profile.specs.RecordB.{recordB};
+ghost use Rattle.profile.specs.RecordC.{recordC};
 ghost use Rattle.session.specs.Session.{busy};
 
 // A further block of the open profile: posts from byte 1, at most 170.
-fn further_block(s: Session, number: u64, block: &[u8], scratch: &mut [i32]) -> Step
+fn further_block(s: Session, number: u64, block: &[u8], scratch: &mut [i32]) -> Judged
     requires { ⌜ Opened s number (now block) (now scratch) ⌝ }
-    ensures { λ r. ⌜ Stepped s (further s number (now (block .entry))) (now (scratch .entry)) (now (scratch .exit)) r ⌝ }
+    ensures { λ r. ⌜ Judging s (further s number (now (block .entry))) (cellsOf (s .header)) (now (scratch .exit)) r ⌝ }
 {
     let p = s.profile;
     let h = s.header;
@@ -24,25 +29,25 @@ fn further_block(s: Session, number: u64, block: &[u8], scratch: &mut [i32]) -> 
     let z = frame::z_of(h);
     let r = posts::scan_block(block, 1, n as usize, z, p.datum, scratch);
     if r.kind != 0 {
-        return Step::Wrong(r.kind, number, r.byte);
+        return verdict::refused(s, r.kind, number, r.byte);
     }
     let tally = r.tally;
     steps::fill_step(s, number, s.column, p, n, tally)
 }
 
 // A profile's first block whose posts are good: its place, then its cells.
-fn place_profile(s: Session, number: u64, head: Head, n: u64, u: Tally) -> Step
+fn place_profile(s: Session, number: u64, head: Head, n: u64, u: Tally) -> Judged
     requires { ⌜ Placeable s number head n u ⌝ }
-    ensures { λ r. ⌜ r ≡ placeStep s number head n u ⌝ }
+    ensures { λ r. ⌜ ByTally s (λ hs. placed s number head (filling s number (firstColumn s head) (opened s head) hs)) n u r ⌝ }
 {
     let h = s.header;
     let c = frame::column_of(h, head.x);
     if !rules::column_fits(s, c) {
-        return Step::Wrong(10, number, 25);
+        return verdict::refused(s, 10, number, 25);
     }
     let w = frame::row_of(h, head.y);
     if !rules::row_fits(s, head.posts, w) {
-        return Step::Wrong(10, number, 49);
+        return verdict::refused(s, 10, number, 49);
     }
     let column = rules::first_column(s, c);
     let p = rules::open_profile(head, w);
@@ -50,69 +55,49 @@ fn place_profile(s: Session, number: u64, head: Head, n: u64, u: Tally) -> Step
 }
 
 // A profile's first block: posts from byte 145, at most 146.
-fn open_block(s: Session, number: u64, block: &[u8], head: Head, scratch: &mut [i32]) -> Step
+fn open_block(s: Session, number: u64, block: &[u8], head: Head, scratch: &mut [i32]) -> Judged
     requires { ⌜ Opening s number (now block) head (now scratch) ⌝ }
-    ensures { λ r. ⌜ Stepped s (openingWith s number (now (block .entry)) head) (now (scratch .entry)) (now (scratch .exit)) r ⌝ }
+    ensures { λ r. ⌜ Judging s (openingWith s number (now (block .entry)) head) (cellsOf (s .header)) (now (scratch .exit)) r ⌝ }
 {
     let h = s.header;
     let n = figures::fewer_of(head.posts, 146);
     let z = frame::z_of(h);
     let r = posts::scan_block(block, 145, n as usize, z, head.datum, scratch);
     if r.kind != 0 {
-        return Step::Wrong(r.kind, number, r.byte);
+        return verdict::refused(s, r.kind, number, r.byte);
     }
     let tally = r.tally;
     place_profile(s, number, head, n, tally)
 }
 
 // The next profile's first block, whose head is read first.
-fn start_profile(s: Session, number: u64, block: &[u8], scratch: &mut [i32]) -> Step
+fn start_profile(s: Session, number: u64, block: &[u8], scratch: &mut [i32]) -> Judged
     requires { ⌜ Next s number (now block) (now scratch) × ((busy s ≡ false) × (s .closed < s .header .profiles)) ⌝ }
-    ensures { λ r. ⌜ Stepped s (opening s number (now (block .entry)) (recordB (s .closed + 1) (now (block .entry)))) (now (scratch .entry)) (now (scratch .exit)) r ⌝ }
+    ensures { λ r. ⌜ Judging s (opening s number (now (block .entry)) (recordB (s .closed + 1) (now (block .entry)))) (cellsOf (s .header)) (now (scratch .exit)) r ⌝ }
 {
     let headed = profile::record_b::read_head(s.closed + 1, block);
     match headed {
         Headed::Profile(head) => open_block(s, number, block, head, scratch),
-        Headed::Refused(kind, byte) => Step::Wrong(kind, number, byte),
-    }
-}
-
-fn finish_session(s: Session) -> Session
-    requires { ⌜ s .taken ≤ 26626 ⌝ }
-    ensures { λ r. ⌜ r ≡ finishedSession s ⌝ }
-{
-    let header = s.header;
-    let profile = s.profile;
-    Session {
-        header,
-        taken: s.taken + 1,
-        closed: s.closed,
-        posts: s.posts,
-        filled: s.filled,
-        low: s.low,
-        high: s.high,
-        column: s.column,
-        finished: 1,
-        profile,
+        Headed::Refused(kind, byte) => verdict::refused(s, kind, number, byte),
     }
 }
 
 // Record C: no cell, one block more.
-fn finish_sheet(s: Session, number: u64, block: &[u8]) -> Step
+fn finish_sheet(s: Session, number: u64, block: &[u8]) -> Judged
     requires { ⌜ s .taken ≤ 26626 ⌝ }
-    ensures { λ r. ⌜ r ≡ finishStep s number (now (block .entry)) ⌝ }
+    ensures { λ r. ⌜ r ≡ judgedOf s (unless (recordC (now (block .entry))) number (fills (finishedSession s) 0 [])) ⌝ }
 {
     let f = profile::record_c::check_record_c(block);
     if f.kind != 0 {
-        return Step::Wrong(f.kind, number, f.byte);
+        return verdict::refused(s, f.kind, number, f.byte);
     }
-    Step::Fills(finish_session(s), 0, 0)
+    verdict::taken(progress::finish_session(s), 0, 0, 0)
 }
 
 // A later block, judged whole before a cell is written.
-pub(crate) fn later_block(s: Session, number: u64, block: &[u8], scratch: &mut [i32]) -> Step
+pub(crate) fn later_block(s: Session, number: u64, block: &[u8], scratch: &mut [i32]) -> Judged
     requires { ⌜ Next s number (now block) (now scratch) ⌝ }
-    ensures { λ r. ⌜ Stepped s (later s number (now (block .entry))) (now (scratch .entry)) (now (scratch .exit)) r ⌝ }
+    ensures { λ r. ⌜ Judging s (later s number (now (block .entry))) (cellsOf (s .header)) (now (scratch .exit)) r ⌝ }
 {
     let p = s.profile;
     let h = s.header;

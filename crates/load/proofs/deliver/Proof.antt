@@ -1,7 +1,7 @@
 -- One delivery: judged, then done.
 use mathlib.Core.Path.{refl}
 use borrow.Author.Needs.{needs}
-use Rattle.load.proofs.Answers.{judging-doable, delivered}
+use Rattle.load.proofs.Applied.{delivered}
 use Rattle.load.proofs.deliver.Statement.{statement}
 use Rattle.load.proofs.deliver.Tie as tie
 
@@ -15,9 +15,7 @@ slice-aggregate-apply : tie.Need-slice-aggregate-apply
 slice-aggregate-apply c = search needs
 
 apply-requires : tie.Need-apply-requires
-apply-requires c κs =
-    let j = c .before .before .before in
-    judging-doable _ (j .judge .last .1 .1 .1 .1 .0) (j .before .before .before .args .grid .now) (j .judge .result) (j .judge .ensures)
+apply-requires c κs = search needs
 
 same-length : tie.Need-same-length
 same-length c = search needs
@@ -27,7 +25,7 @@ returns c =
     let d = c .before in
     let j = d .before .before .before .before in
     let a = j .before .before .before .args in
-    delivered (a .s) (a .number) (a .block .now) (j .judge .last .1 .1 .1 .1 .0) (a .grid .now) (d .apply .last .1 .1 .1 .0) (j .judge .result)
+    delivered (a .s) (a .number) (a .block .now) (j .judge .last .1 .1 .1 .1 .0) (a .grid .now) (d .apply .last .1 .1 .0) (j .judge .result)
     (d .apply .result)
     (j .judge .ensures)
     (d .apply .ensures)

@@ -1,10 +1,13 @@
--- The first tests, then block 0 or a later block; Answers has what each comes to.
-use mathlib.Core.Path.{sym, _∙_, ap}
-use Rattle.delivery.specs.Deliver.{verdictOf}
-use Rattle.load.specs.Steps.{room}
-use Rattle.load.proofs.Answers.{judged-refused, judged-held, judged-first, judged-later}
-use Rattle.load.proofs.Judged.{same-step}
-use Rattle.load.proofs.Gates.{byGate, gate-verdict, Due, gate-due}
+-- The first tests, then block 0 or a later block.
+use mathlib.Core.Path.{sym, _∙_}
+use Rattle.frame.specs.Frame.{cellsOf}
+use Rattle.sheet.specs.RecordA.{recordA}
+use Rattle.delivery.specs.Deliver.{later}
+use Rattle.gate.specs.Gate.{room}
+use Rattle.gate.specs.declared.verdict.Gate.the-variants.{Stop, Again, Begin, Later}
+use Rattle.gate.proofs.Gates.{gate-said, Due, gate-due}
+use Rattle.load.proofs.Readiness.{ready-of}
+use Rattle.load.proofs.Judged.{same-judging, lies-more, first-lies}
 use borrow.Author.Needs.{needs}
 use Rattle.load.proofs.judge.Statement.{statement}
 use Rattle.load.proofs.judge.Tie as tie
@@ -15,8 +18,14 @@ gate-requires c κs = search needs
 enum-known-g : tie.Need-enum-known-g
 enum-known-g c = search needs
 
+refused-requires : tie.Need-refused-requires
+refused-requires c κs = search needs
+
 enum-told : tie.Need-enum-told
 enum-told c = search needs
+
+held-requires : tie.Need-held-requires
+held-requires c κs = search needs
 
 enum-told-2 : tie.Need-enum-told-2
 enum-told-2 c = search needs
@@ -38,59 +47,43 @@ later-block-requires : tie.Need-later-block-requires
 later-block-requires c κs =
     let o = c .before .before .before .before .before in
     let d = due (c .before) in
-    record { ready = d .ready; taken-is = d .taken-is; long = d .long; room = o .pre }
-
-judge-later-requires : tie.Need-judge-later-requires
-judge-later-requires c κs = search needs
+    record { ready = ready-of (o .args .s) (d .sound-is) (d .begun); taken-is = d .taken-is; long = d .long; room = o .pre }
 
 returns : tie.Need-returns
 returns c =
-    let o = c .before .before .before .before .before in
-    let a = o .args in
-    let m = room (a .cells) in
-    judged-refused (verdictOf (a .s) (a .number) (a .block .now) m) m (a .scratch .now) (o .pre) _ (a .number) 0
-    (ap (byGate (a .s) (a .number) (a .block .now) m) (sym (c .before .g .given .1) ∙ c .before .before .before .gate .ensures)
-    ∙ gate-verdict (a .s) (a .number) (a .block .now) m)
+    let g = c .before .before .before .before in
+    let a = g .before .before .args in
+    same-judging (gate-said (a .s) (a .number) (a .block .now) (room (a .cells)) (Stop _) (g .gate .ensures) (c .before .before .g .given .1))
+    (record { judged-is = c .refused .ensures; lies = tt })
 
 returns-2 : tie.Need-returns-2
 returns-2 c =
-    let o = c .before .before .before .before in
-    let a = o .args in
-    let m = room (a .cells) in
-    judged-held (verdictOf (a .s) (a .number) (a .block .now) m) m (a .scratch .now) (o .pre)
-    (ap (byGate (a .s) (a .number) (a .block .now) m) (sym (c .enum-told .given .1) ∙ c .before .before .gate .ensures)
-    ∙ gate-verdict (a .s) (a .number) (a .block .now) m)
+    let g = c .before .before .before in
+    let a = g .before .before .args in
+    same-judging (gate-said (a .s) (a .number) (a .block .now) (room (a .cells)) Again (g .gate .ensures) (c .before .enum-told .given .1))
+    (record { judged-is = c .held .ensures; lies = tt })
 
 returns-3 : tie.Need-returns-3
 returns-3 c =
-    let o = c .before .before .before .before .before in
-    let a = o .args in
-    let m = room (a .cells) in
-    judged-first (verdictOf (a .s) (a .number) (a .block .now) m) m (a .scratch .now) (o .pre) (a .block .now) (c .judge-first .result)
-    (c .judge-first .ensures)
-    (ap (byGate (a .s) (a .number) (a .block .now) m) (sym (c .before .enum-told2 .given .1) ∙ c .before .before .before .gate .ensures)
-    ∙ gate-verdict (a .s) (a .number) (a .block .now) m)
+    let g = c .before .before .before in
+    let a = g .before .before .args in
+    same-judging (gate-said (a .s) (a .number) (a .block .now) (room (a .cells)) Begin (g .gate .ensures) (c .before .enum-told2 .given .1))
+    (record { judged-is = c .judge-first .ensures; lies = first-lies (room (a .cells)) (recordA (a .block .now)) (a .scratch .now) })
 
 same-length : tie.Need-same-length
 same-length c = search needs
 
 returns-4 : tie.Need-returns-4
 returns-4 c =
-    let l = c .before .before in
+    let l = c .before in
     let e = l .before .before in
-    let o = e .before .before .before .before in
-    let a = o .args in
-    let m = room (a .cells) in
-    judged-later (a .s) (verdictOf (a .s) (a .number) (a .block .now) m) m (a .scratch .now) (l .later-block .last .1 .1 .1 .0)
-    (l .later-block .result)
-    (c .judge-later .result)
-    (same-step (a .s) (a .scratch .now) (l .later-block .last .1 .1 .1 .0)
-    (ap (byGate (a .s) (a .number) (a .block .now) m) (sym (e .enum-told3 .given .1) ∙ e .before .before .gate .ensures)
-    ∙ gate-verdict (a .s) (a .number) (a .block .now) m)
-    (l .later-block .ensures))
-    (o .pre)
-    (due e .cells)
-    (c .judge-later .ensures)
+    let g = e .before .before in
+    let a = g .before .before .args in
+    same-judging (gate-said (a .s) (a .number) (a .block .now) (room (a .cells)) Later (g .gate .ensures) (e .enum-told3 .given .1))
+    (record {
+      judged-is = l .later-block .ensures .judged-is;
+      lies = lies-more (later (a .s) (a .number) (a .block .now)) (cellsOf (a .s .header)) (a .cells) (l .later-block .last .1 .1 .1 .0) (due e .cells) (l .later-block .ensures .lies);
+    })
 
 pub judge-spec : {M : Type 1} → statement M
 judge-spec =
@@ -98,12 +91,13 @@ judge-spec =
     (tie.spec
     gate-requires
     enum-known-g
+    refused-requires
     enum-told
+    held-requires
     enum-told-2
     judge-first-requires
     enum-told-3
     later-block-requires
-    judge-later-requires
     returns
     returns-2
     returns-3

@@ -5,10 +5,10 @@ use lib.ListN.{length}
 use Rattle.laws.proofs.Signs.{back}
 use Rattle.frame.specs.Frame.{zOf}
 use Rattle.posts.specs.Steps.{BlockScanned}
-use Rattle.delivery.specs.Deliver.{further}
+use Rattle.delivery.specs.Deliver.{filling}
 use Rattle.posts.proofs.Asking.{asks, scan-known}
 use Rattle.load.specs.Steps.{Placing}
-use Rattle.load.proofs.Judged.{Scannable, refused-step, further-refused, further-fine, scanned-filling, filled-step}
+use Rattle.load.proofs.Judged.{Scannable, same-judging, further-refused, further-fine, scanned-filling, by-heights, filled-lies}
 use Rattle.load.proofs.blocks.further_block.Statement.{statement}
 use Rattle.load.proofs.blocks.further_block.Tie as tie
 
@@ -58,7 +58,6 @@ scannable s =
     let f = o .ready .profile-is (o .busy-is) in
     record {
       ready = o .ready;
-      datum-most = f .datum-most;
       read-most = omega (arith, s .before .before .before .before .fewer-of .ensures, f .read-below);
       posts-most = f .posts-most;
       filled-most = f .filled-most;
@@ -77,17 +76,20 @@ placing s =
       blocks = o .blocks;
     }
 
+refused-requires : tie.Need-refused-requires
+refused-requires c κs = search needs
+
 same-length : tie.Need-same-length
 same-length c = search needs
 
 returns : tie.Need-returns
 returns c =
-    let s = c .before .before .before in
+    let s = c .before .before .before .before in
     let a = s .before .before .before .before .before .before .before .before .before .args in
     let l = s .before .before .before .before in
-    refused-step (a .s) (further (a .s) (a .number) (a .block .now)) (a .scratch .now) (s .scan-block .last .1 .1 .1 .1 .1 .0) (s .scan-block .result .kind) (a .number) (s .scan-block .result .byte)
-    (scanned s .kept)
-    (further-refused (a .s) (a .number) (a .block .now) (l .fewer-of .result) (s .scan-block .result .kind) (s .scan-block .result .byte) (l .fewer-of .ensures) (scanned s .fault-is) (c .if1 .taken))
+    same-judging
+    (further-refused (a .s) (a .number) (a .block .now) (l .fewer-of .result) (s .scan-block .result .kind) (s .scan-block .result .byte) (l .fewer-of .ensures) (scanned s .fault-is) (c .before .if1 .taken))
+    (record { judged-is = c .refused .ensures; lies = tt })
 
 fill-step-requires : tie.Need-fill-step-requires
 fill-step-requires c κs =
@@ -108,18 +110,22 @@ returns-2 c =
     let s = c .before .before .before .before .before in
     let a = s .before .before .before .before .before .before .before .before .before .args in
     let l = s .before .before .before .before in
-    filled-step (a .s) (a .s .profile) 1 (l .fewer-of .result) (a .block .now) (a .scratch .now) (s .scan-block .last .1 .1 .1 .1 .1 .0) (s .scan-block .result)
-    (scanned s)
-    (c .before .before .if1 .left)
-    (scannable s)
-    (a .number)
-    (a .s .column)
-    (placing s)
-    (omega (arith, l .fewer-of .ensures))
-    (c .fill-step .result)
-    (c .fill-step .ensures)
-    (further (a .s) (a .number) (a .block .now))
-    (further-fine (a .s) (a .number) (a .block .now) (l .fewer-of .result) (s .scan-block .result .kind) (s .scan-block .result .byte) (l .fewer-of .ensures) (scanned s .fault-is) (c .before .before .if1 .left))
+    let after = s .scan-block .last .1 .1 .1 .1 .1 .0 in
+    let good = c .before .before .if1 .left in
+    same-judging
+    (further-fine (a .s) (a .number) (a .block .now) (l .fewer-of .result) (s .scan-block .result .kind) (s .scan-block .result .byte) (l .fewer-of .ensures) (scanned s .fault-is) good)
+    (record {
+      judged-is =
+          by-heights (a .s) (a .s .profile) 1 (l .fewer-of .result) (a .block .now) (a .scratch .now) after (s .scan-block .result) (scanned s) good (scannable s)
+          (filling (a .s) (a .number) (a .s .column) (a .s .profile))
+          (c .fill-step .result)
+          (c .fill-step .ensures);
+      lies =
+          filled-lies (a .s) (a .s .profile) 1 (l .fewer-of .result) (a .block .now) (a .scratch .now) after (s .scan-block .result) (scanned s) good (scannable s)
+          (a .number)
+          (a .s .column)
+          (placing s);
+    })
 
 pub further-block-spec : {M : Type 1} → statement M
 further-block-spec =
@@ -129,6 +135,7 @@ further-block-spec =
     fewer-of-requires
     z-of-requires
     scan-block-requires
+    refused-requires
     same-length
     returns
     fill-step-requires

@@ -4,7 +4,8 @@ use mathlib.Core.Path.{ap}
 use native.Mathlib.Omega.{arith}
 use borrow.Author.Tests.{ne-eqb, eq-eqb}
 use borrow.Author.Needs.{needs}
-use Rattle.load.proofs.Judged.{same-step, later-goes-on, later-opens, later-ends, finish-stepped}
+use Rattle.frame.specs.Frame.{cellsOf}
+use Rattle.load.proofs.Judged.{same-judging, later-goes-on, later-opens, later-ends, finish-lies}
 use Rattle.load.proofs.blocks.later_block.Statement.{statement}
 use Rattle.load.proofs.blocks.later_block.Tie as tie
 
@@ -26,7 +27,7 @@ same-length c = search needs
 returns : tie.Need-returns
 returns c =
     let o = c .before .before .before .before .before .before .before .before in
-    same-step (o .args .s) (o .args .scratch .now) (c .before .further-block .last .1 .1 .1 .0)
+    same-judging
     (later-goes-on (o .args .s) (o .args .number) (o .args .block .now) (c .before .before .before .if1 .taken))
     (c .before .further-block .ensures)
 
@@ -41,7 +42,7 @@ same-length-2 c = search needs
 returns-2 : tie.Need-returns-2
 returns-2 c =
     let o = c .before .before .before .before .before .before .before .before .before .before .before in
-    same-step (o .args .s) (o .args .scratch .now) (c .before .start-profile .last .1 .1 .1 .0)
+    same-judging
     (later-opens (o .args .s) (o .args .number) (o .args .block .now) (c .before .before .before .before .before .before .if1 .left) (c .before .before .before .if2 .taken))
     (c .before .start-profile .ensures)
 
@@ -51,9 +52,9 @@ finish-sheet-requires c κs = search needs
 returns-3 : tie.Need-returns-3
 returns-3 c =
     let o = c .before .before .before .before .before .before .before .before .before in
-    same-step (o .args .s) (o .args .scratch .now) (o .args .scratch .now)
-    (later-ends (o .args .s) (o .args .number) (o .args .block .now) (c .before .before .before .before .if1 .left) (c .before .if2 .left))
-    (finish-stepped (o .args .s) (o .args .number) (o .args .block .now) (o .args .scratch .now) (c .finish-sheet .result) (c .finish-sheet .ensures))
+    let a = o .args in
+    same-judging (later-ends (a .s) (a .number) (a .block .now) (c .before .before .before .before .if1 .left) (c .before .if2 .left))
+    (record { judged-is = c .finish-sheet .ensures; lies = finish-lies (a .s) (a .number) (a .block .now) (cellsOf (a .s .header)) (a .scratch .now) })
 
 pub later-block-spec : {M : Type 1} → statement M
 later-block-spec =

@@ -1,16 +1,16 @@
 -- A first block: scanned, then placed and filled; Placed has why.
 use borrow.Author.Needs.{needs}
-use mathlib.Core.Path.{_≡_, refl, subst}
+use mathlib.Core.Path.{_≡_}
 use native.Mathlib.Omega.{arith}
 use Rattle.laws.proofs.Signs.{back}
-use Rattle.frame.specs.Frame.{zOf}
+use Rattle.frame.specs.Frame.{zOf, cellsOf}
 use Rattle.posts.specs.Steps.{BlockScanned}
-use Rattle.delivery.specs.Deliver.{openingWith}
+use Rattle.delivery.specs.Deliver.{opened, firstColumn, filling, placed, heightsHere}
 use lib.ListN.{length}
 use Rattle.posts.proofs.Asking.{asks, scan-known}
-use Rattle.load.specs.Steps.{Placeable, Stepped}
-use Rattle.load.proofs.Judged.{scanned-tally, refused-step, opening-refused, opening-fine}
-use Rattle.load.proofs.Placed.{placed-step}
+use Rattle.load.specs.Steps.{Placeable}
+use Rattle.load.proofs.Judged.{Scannable, scanned-count, same-judging, opening-refused, opening-fine, by-heights, filled-lies}
+use Rattle.load.proofs.Placed.{placed-lies, opened-placing}
 use Rattle.load.proofs.blocks.open_block.Statement.{statement}
 use Rattle.load.proofs.blocks.open_block.Tie as tie
 
@@ -53,7 +53,6 @@ placeable s e =
     let o = s .before .before .before .before .before .before .before .pre in
     let a = s .before .before .before .before .before .before .before .args in
     let n = s .before .before .before .before .fewer-of .ensures in
-    let f = scanned-tally (a .s) (a .head .datum) 145 (s .before .before .before .before .fewer-of .result) (a .block .now) (a .scratch .now) (s .scan-block .last .1 .1 .1 .1 .1 .0) (s .scan-block .result) (scanned s) e (o .ready) (o .datum-most) in
     record {
       ready = o .ready;
       idle = o .idle;
@@ -61,20 +60,23 @@ placeable s e =
       taken-is = o .taken-is;
       posts-most = o .posts-most;
       within = omega (arith, n);
-      count = f .count;
+      count = scanned-count (a .s) (a .head .datum) 145 (s .before .before .before .before .fewer-of .result) (a .block .now) (a .scratch .now) (s .scan-block .last .1 .1 .1 .1 .1 .0) (s .scan-block .result) (scanned s) e;
     }
+
+refused-requires : tie.Need-refused-requires
+refused-requires c κs = search needs
 
 same-length : tie.Need-same-length
 same-length c = search needs
 
 returns : tie.Need-returns
 returns c =
-    let s = c .before .before .before in
+    let s = c .before .before .before .before in
     let a = s .before .before .before .before .before .before .before .args in
     let l = s .before .before .before .before in
-    refused-step (a .s) (openingWith (a .s) (a .number) (a .block .now) (a .head)) (a .scratch .now) (s .scan-block .last .1 .1 .1 .1 .1 .0) (s .scan-block .result .kind) (a .number) (s .scan-block .result .byte)
-    (scanned s .kept)
-    (opening-refused (a .s) (a .number) (a .block .now) (l .fewer-of .result) (s .scan-block .result .kind) (s .scan-block .result .byte) (a .head) (l .fewer-of .ensures) (scanned s .fault-is) (c .if1 .taken))
+    same-judging
+    (opening-refused (a .s) (a .number) (a .block .now) (l .fewer-of .result) (s .scan-block .result .kind) (s .scan-block .result .byte) (a .head) (l .fewer-of .ensures) (scanned s .fault-is) (c .before .if1 .taken))
+    (record { judged-is = c .refused .ensures; lies = tt })
 
 place-profile-requires : tie.Need-place-profile-requires
 place-profile-requires c κs = placeable (c .before .before .before .before) (c .before .if1 .left)
@@ -82,21 +84,38 @@ place-profile-requires c κs = placeable (c .before .before .before .before) (c 
 same-length-2 : tie.Need-same-length-2
 same-length-2 c = search needs
 
+scannable : (s : tie.After-scan-block)
+    → Scannable (s .before .before .before .before .before .before .before .args .s) (opened (s .before .before .before .before .before .before .before .args .s) (s .before .before .before .before .before .before .before .args .head)) (s .before .before .before .before .fewer-of .result)
+scannable s =
+    let o = s .before .before .before .before .before .before .before .pre in
+    record {
+      ready = o .ready;
+      read-most = omega (arith, s .before .before .before .before .fewer-of .ensures);
+      posts-most = o .posts-most;
+      filled-most = omega arith;
+    }
+
 returns-2 : tie.Need-returns-2
 returns-2 c =
     let s = c .before .before .before .before .before in
     let a = s .before .before .before .before .before .before .before .args in
     let l = s .before .before .before .before in
-    subst (λ v. Stepped (a .s) v (a .scratch .now) (s .scan-block .last .1 .1 .1 .1 .1 .0) (c .place-profile .result))
-    (opening-fine (a .s) (a .number) (a .block .now) (l .fewer-of .result) (s .scan-block .result .kind) (s .scan-block .result .byte) (a .head) (l .fewer-of .ensures) (scanned s .fault-is) (c .before .before .if1 .left))
-    (placed-step (a .s) (a .number) (a .head) (l .fewer-of .result) (s .scan-block .result .tally) (placeable s (c .before .before .if1 .left)) 145 (a .block .now) (a .scratch .now) (s .scan-block .last .1 .1 .1 .1 .1 .0) (s .scan-block .result)
-    refl
-    (scanned s)
-    (c .before .before .if1 .left)
-    (s .before .before .before .before .before .before .before .pre .datum-most)
-    (omega (arith, l .fewer-of .ensures))
-    (c .place-profile .result)
-    (c .place-profile .ensures))
+    let after = s .scan-block .last .1 .1 .1 .1 .1 .0 in
+    let good = c .before .before .if1 .left in
+    let p = opened (a .s) (a .head) in
+    let to = filling (a .s) (a .number) (firstColumn (a .s) (a .head)) p in
+    same-judging
+    (opening-fine (a .s) (a .number) (a .block .now) (l .fewer-of .result) (s .scan-block .result .kind) (s .scan-block .result .byte) (a .head) (l .fewer-of .ensures) (scanned s .fault-is) good)
+    (record {
+      judged-is =
+          by-heights (a .s) p 145 (l .fewer-of .result) (a .block .now) (a .scratch .now) after (s .scan-block .result) (scanned s) good (scannable s)
+          (λ hs. placed (a .s) (a .number) (a .head) (to hs))
+          (c .place-profile .result)
+          (c .place-profile .ensures);
+      lies =
+          placed-lies (a .s) (a .number) (a .head) (to (heightsHere (a .s) p 145 (l .fewer-of .result) (a .block .now))) (cellsOf (a .s .header)) after
+          (λ east north. filled-lies (a .s) p 145 (l .fewer-of .result) (a .block .now) (a .scratch .now) after (s .scan-block .result) (scanned s) good (scannable s) (a .number) (firstColumn (a .s) (a .head)) (opened-placing (a .s) (a .number) (a .head) (l .fewer-of .result) (s .scan-block .result .tally) (placeable s good) east north));
+    })
 
 pub open-block-spec : {M : Type 1} → statement M
 open-block-spec =
@@ -105,6 +124,7 @@ open-block-spec =
     fewer-of-requires
     z-of-requires
     scan-block-requires
+    refused-requires
     same-length
     returns
     place-profile-requires

@@ -5,8 +5,8 @@ use mathlib.Core.Bool.{true}
 use borrow.Author.Tests.{not-false, not-true}
 use Rattle.laws.proofs.Signs.{back}
 use Rattle.frame.specs.Frame.{columnPlaceOf, rowPlaceOf}
-use Rattle.delivery.specs.Deliver.{columnFits, columnPlace, rowFits, rowPlace, opened, openedAt, columnFrom, firstColumn}
-use Rattle.load.specs.Steps.{fillStep}
+use Rattle.delivery.specs.Deliver.{columnFits, columnPlace, rowFits, rowPlace, opened, openedAt, columnFrom, firstColumn, filling}
+use Rattle.gate.specs.Gate.{judgedOf}
 use Rattle.load.proofs.Placed.{place-column, place-row, place-good, opened-filling, opened-placing}
 use Rattle.load.proofs.blocks.place_profile.Statement.{statement}
 use Rattle.load.proofs.blocks.place_profile.Tie as tie
@@ -28,10 +28,15 @@ column-is c =
 east : (c : tie.Else1) → columnFits (c .before .before .before .before .before .args .s) (columnPlace (c .before .before .before .before .before .args .s) (c .before .before .before .before .before .args .head)) ≡ true
 east c = sym (column-is (c .before)) ∙ not-false _ (c .if1 .left)
 
+refused-requires : tie.Need-refused-requires
+refused-requires c κs = search needs
+
 returns : tie.Need-returns
-returns c =
-    let a = c .before .before .before .before .before .args in
-    place-column (a .s) (a .number) (a .head) (a .n) (a .u) (sym (column-is (c .before)) ∙ not-true _ (c .if1 .taken))
+returns c hs e f =
+    let k = c .before .before in
+    let a = k .before .before .before .before .args in
+    c .refused .ensures
+    ∙ ap (judgedOf (a .s)) (place-column (a .s) (a .number) (a .head) _ (sym (column-is k) ∙ not-true _ (c .before .if1 .taken)))
 
 row-of-requires : tie.Need-row-of-requires
 row-of-requires c κs = search needs
@@ -51,10 +56,15 @@ row-is c = let a = c .before .before .before .before .before .before .before .be
 north : (c : tie.Else2) → rowFits (c .before .before .before .before .before .before .before .before .before .args .s) (c .before .before .before .before .before .before .before .before .before .args .head .posts) (rowPlace (c .before .before .before .before .before .before .before .before .before .args .s) (c .before .before .before .before .before .before .before .before .before .args .head)) ≡ true
 north c = sym (row-is (c .before)) ∙ not-false _ (c .if2 .left)
 
+refused-requires-2 : tie.Need-refused-requires-2
+refused-requires-2 c κs = search needs
+
 returns-2 : tie.Need-returns-2
-returns-2 c =
-    let a = c .before .before .before .before .before .before .before .before .before .args in
-    place-row (a .s) (a .number) (a .head) (a .n) (a .u) (east (c .before .before .before .before)) (sym (row-is (c .before)) ∙ not-true _ (c .if2 .taken))
+returns-2 c hs e f =
+    let k = c .before .before in
+    let a = k .before .before .before .before .before .before .before .before .args in
+    c .refused2 .ensures
+    ∙ ap (judgedOf (a .s)) (place-row (a .s) (a .number) (a .head) _ (east (k .before .before .before)) (sym (row-is k) ∙ not-true _ (c .before .if2 .taken)))
 
 first-column-requires : tie.Need-first-column-requires
 first-column-requires c κs = search needs
@@ -82,11 +92,12 @@ fill-step-requires c κs =
     )
 
 returns-3 : tie.Need-returns-3
-returns-3 c =
-    let a = c .before .before .before .before .before .before .before .before .before .before .before .before .args in
-    c .fill-step .ensures
-    ∙ (λ j. fillStep (a .s) (a .number) (from-is (c .before) j) (profile-is (c .before) j) (a .n) (a .u))
-    ∙ place-good (a .s) (a .number) (a .head) (a .n) (a .u) (east (c .before .before .before .before .before .before .before)) (north (c .before .before .before))
+returns-3 c hs e f =
+    let o = c .before in
+    let a = o .before .before .before .before .before .before .before .before .before .before .before .args in
+    c .fill-step .ensures hs e f
+    ∙ (λ j. judgedOf (a .s) (filling (a .s) (a .number) (from-is o j) (profile-is o j) hs))
+    ∙ ap (judgedOf (a .s)) (place-good (a .s) (a .number) (a .head) _ (east (o .before .before .before .before .before .before)) (north (o .before .before)))
 
 pub place-profile-spec : {M : Type 1} → statement M
 place-profile-spec =
@@ -94,9 +105,11 @@ place-profile-spec =
     (tie.spec
     column-of-requires
     column-fits-requires
+    refused-requires
     returns
     row-of-requires
     row-fits-requires
+    refused-requires-2
     returns-2
     first-column-requires
     open-profile-requires

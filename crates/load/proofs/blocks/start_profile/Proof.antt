@@ -1,10 +1,10 @@
 -- The head read, then its block.
 use borrow.Author.Needs.{needs}
-use mathlib.Core.Path.{sym, _∙_, ap, refl}
+use mathlib.Core.Path.{sym, _∙_, ap}
 use Prim.Native.Nat.{_+_}
 use Rattle.profile.proofs.RecordLaws.{head-bounds}
 use Rattle.delivery.specs.Deliver.{opening}
-use Rattle.load.proofs.Judged.{same-step, refused-step}
+use Rattle.load.proofs.Judged.{same-judging}
 use Rattle.load.proofs.blocks.start_profile.Statement.{statement}
 use Rattle.load.proofs.blocks.start_profile.Tie as tie
 
@@ -37,24 +37,25 @@ open-block-requires c κs =
 enum-known-headed-2 : tie.Need-enum-known-headed-2
 enum-known-headed-2 c = search needs
 
+refused-requires : tie.Need-refused-requires
+refused-requires c κs = search needs
+
 same-length : tie.Need-same-length
 same-length c = search needs
 
 returns : tie.Need-returns
 returns c =
-    let o = c .before .before .before .before .before .before .before .before .before in
-    let q = sym (c .before .before .before .before .before .before .read-head .ensures) ∙ c .before .before .before .before .headed .given .1 in
-    same-step (o .args .s) (o .args .scratch .now) (c .before .open-block .last .1 .1 .1 .1 .0)
-    (ap (opening (o .args .s) (o .args .number) (o .args .block .now)) (sym q))
+    let h = c .before .before .before .before in
+    let o = h .before .before .before .before .before in
+    same-judging (ap (opening (o .args .s) (o .args .number) (o .args .block .now)) (sym (h .headed .given .1) ∙ h .before .before .read-head .ensures))
     (c .before .open-block .ensures)
 
 returns-2 : tie.Need-returns-2
 returns-2 c =
-    let o = c .before .before .before .before .before .before in
-    let h = c .before in
-    let q = sym (c .before .before .before .read-head .ensures) ∙ h .headed2 .given .1 in
-    refused-step (o .args .s) _ (o .args .scratch .now) (o .args .scratch .now) (h .headed2 .given .0 .0) (o .args .number) (h .headed2 .given .0 .1 .0) refl
-    (ap (opening (o .args .s) (o .args .number) (o .args .block .now)) (sym q))
+    let h = c .before .before in
+    let o = h .before .before .before .before .before in
+    same-judging (ap (opening (o .args .s) (o .args .number) (o .args .block .now)) (sym (h .headed2 .given .1) ∙ h .before .before .read-head .ensures))
+    (record { judged-is = c .refused .ensures; lies = tt })
 
 pub start-profile-spec : {M : Type 1} → statement M
 start-profile-spec =
@@ -65,6 +66,7 @@ start-profile-spec =
     enum-known-headed
     open-block-requires
     enum-known-headed-2
+    refused-requires
     same-length
     returns
     returns-2)

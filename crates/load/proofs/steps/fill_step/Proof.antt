@@ -1,17 +1,24 @@
 -- A good block: filled, and closed where its last post is read.
-use borrow.Author.Needs.{needs}
-use mathlib.Core.Path.{_∙_, ap, ap₂}
+use mathlib.Core.Bool.{cond}
+use mathlib.Core.Path.{_≡_, _∙_, ap, ap₂}
 use Prim.Native.Nat.{_-_}
 use native.Mathlib.Omega.{arith}
-use Rattle.delivery.specs.Deliver.{closeFault, nextCell, closedSession}
-use Rattle.load.specs.declared.steps.Step.the-variants.{Fills}
-use Rattle.load.specs.Steps.{filledWith}
-use Rattle.load.proofs.Merging.{close-wrong, close-good, fill-more, fill-last}
+use Rattle.session.specs.declared.Session.{Session}
+use Rattle.session.specs.Session.{openBlocks}
+use Rattle.delivery.specs.Deliver.{closeFault, closedSession}
+use Rattle.gate.specs.Gate.{taken}
+use Rattle.progress.specs.Progress.{small, filledWith}
+use Rattle.progress.proofs.Counts.{goes-on}
+use Rattle.load.proofs.Filled.{filled-on, fill-more, fill-last, fill-broken}
+use borrow.Author.Needs.{needs}
 use Rattle.load.proofs.steps.fill_step.Statement.{statement}
 use Rattle.load.proofs.steps.fill_step.Tie as tie
 
 fill-session-requires : tie.Need-fill-session-requires
 fill-session-requires c κs = search needs
+
+after-is : (c : tie.After-fill-session) → c .fill-session .result ≡ filledWith (c .before .args .s) (c .before .args .column) (c .before .args .p) (c .before .args .n) (c .before .args .u)
+after-is c = let a = c .before .args in c .fill-session .ensures ∙ filled-on (a .s) (a .column) (a .p) (a .n) (a .u) (c .before .pre .0)
 
 next-cell-requires : tie.Need-next-cell-requires
 next-cell-requires c κs = search needs
@@ -19,12 +26,16 @@ next-cell-requires c κs = search needs
 add-if1 : tie.Need-add-if1
 add-if1 c = search needs
 
+taken-requires : tie.Need-taken-requires
+taken-requires c κs = search needs
+
 returns : tie.Need-returns
-returns c =
-    let n = c .before .before .before in
+returns c hs e f =
+    let n = c .before .before .before .before in
     let a = n .before .before .args in
-    (λ j. Fills (n .before .fill-session .ensures j) (n .next-cell .ensures j) (a .n))
-    ∙ fill-more (a .s) (a .number) (a .column) (a .p) (a .n) (a .u) (c .if1 .taken)
+    c .taken .ensures
+    ∙ (λ j. taken (after-is (n .before) j) 0 (n .next-cell .ensures j) (a .n))
+    ∙ fill-more (a .s) (a .number) (a .column) (a .p) (a .n) (a .u) hs e f (c .before .if1 .taken)
 
 open-blocks-requires : tie.Need-open-blocks-requires
 open-blocks-requires c κs = search needs
@@ -35,32 +46,44 @@ sub-close-fault c = search needs
 close-fault-requires : tie.Need-close-fault-requires
 close-fault-requires c κs = search needs
 
-returns-2 : tie.Need-returns-2
-returns-2 c =
-    let k = c .before .before in
+refused-requires : tie.Need-refused-requires
+refused-requires c κs = search needs
+
+-- what the closing rules say of the session with the block
+fault-is : (k : tie.After-close-fault)
+    → k .close-fault .result ≡ closeFault (k .before .before .before .before .before .before .before .args .number - openBlocks (k .before .before .before .before .before .before .before .args .s)) (filledWith (k .before .before .before .before .before .before .before .args .s) (k .before .before .before .before .before .before .before .args .column) (k .before .before .before .before .before .before .before .args .p) (k .before .before .before .before .before .before .before .args .n) (k .before .before .before .before .before .before .before .args .u))
+fault-is k =
     let f = k .before .before .before .before .before .before in
-    let a = f .before .args in
-    let after = filledWith (a .s) (a .column) (a .p) (a .n) (a .u) in
-    let fault = k .close-fault .ensures ∙ ap₂ closeFault (ap (λ x. a .number - x) (k .before .open-blocks .ensures)) (f .fill-session .ensures) in
-    close-wrong (a .s) (a .number) after (nextCell (a .s) (a .column) (a .p)) (a .n) (k .close-fault .result) fault (c .if2 .taken)
-    ∙ fill-last (a .s) (a .number) (a .column) (a .p) (a .n) (a .u) (k .before .before .if1 .left)
+    k .close-fault .ensures ∙ ap₂ closeFault (ap (λ x. f .before .args .number - x) (k .before .open-blocks .ensures)) (after-is f)
+
+returns-2 : tie.Need-returns-2
+returns-2 c hs e f =
+    let k = c .before .before .before in
+    let a = k .before .before .before .before .before .before .before .args in
+    c .refused .ensures
+    ∙ fill-broken (a .s) (a .number) (a .column) (a .p) (a .n) (a .u) hs e f (k .before .before .if1 .left) (k .close-fault .result) (fault-is k) (c .before .if2 .taken)
 
 close-session-requires : tie.Need-close-session-requires
-close-session-requires c κs =
-    let f = c .before .before .before .before .before .before .before .before in
-    let q = f .before .pre in
-    rw (f .fill-session .ensures) (omega (arith, q .1 .not-last, q .0 .ready .profiles-most))
+close-session-requires c κs = search needs
+
+taken-requires-2 : tie.Need-taken-requires-2
+taken-requires-2 c κs = search needs
+
+closed-is : (c : tie.After-fill-session)
+    → cond (small (c .fill-session .result .closed)) (closedSession (c .fill-session .result)) (c .fill-session .result) ≡ closedSession (filledWith (c .before .args .s) (c .before .args .column) (c .before .args .p) (c .before .args .n) (c .before .args .u))
+closed-is c =
+    let q = c .before .pre in
+    ap (λ (x : Session). cond (small (x .closed)) (closedSession x) x) (after-is c)
+    ∙ goes-on (c .before .args .s .closed) _ _ (omega (arith, q .1 .not-last, q .0 .ready .profiles-most))
 
 returns-3 : tie.Need-returns-3
-returns-3 c =
-    let k = c .before .before .before in
-    let f = k .before .before .before .before .before .before in
-    let a = f .before .args in
-    let after = filledWith (a .s) (a .column) (a .p) (a .n) (a .u) in
-    let fault = k .close-fault .ensures ∙ ap₂ closeFault (ap (λ x. a .number - x) (k .before .open-blocks .ensures)) (f .fill-session .ensures) in
-    (λ j. Fills ((c .close-session .ensures ∙ ap closedSession (f .fill-session .ensures)) j) (k .before .before .before .before .before .next-cell .ensures j) (a .n))
-    ∙ close-good (a .s) (a .number) after (nextCell (a .s) (a .column) (a .p)) (a .n) (k .close-fault .result) fault (c .before .if2 .left)
-    ∙ fill-last (a .s) (a .number) (a .column) (a .p) (a .n) (a .u) (k .before .before .if1 .left)
+returns-3 c hs e f =
+    let k = c .before .before .before .before in
+    let n = k .before .before .before .before .before in
+    let a = n .before .before .args in
+    c .taken2 .ensures
+    ∙ (λ j. taken ((c .before .close-session .ensures ∙ closed-is (n .before)) j) 0 (n .next-cell .ensures j) (a .n))
+    ∙ fill-last (a .s) (a .number) (a .column) (a .p) (a .n) (a .u) hs e f (k .before .before .if1 .left) (k .close-fault .result) (fault-is k) (c .before .before .if2 .left)
 
 pub fill-step-spec : {M : Type 1} → statement M
 fill-step-spec =
@@ -69,10 +92,13 @@ fill-step-spec =
     fill-session-requires
     next-cell-requires
     add-if1
+    taken-requires
     returns
     open-blocks-requires
     sub-close-fault
     close-fault-requires
+    refused-requires
     returns-2
     close-session-requires
+    taken-requires-2
     returns-3)

@@ -5,8 +5,8 @@ use Prim.Native.Nat.{_+_}
 use Rattle.laws.proofs.Signs.{back}
 use Rattle.ground.specs.Posts.{merged}
 use Rattle.ground.specs.declared.Tally.{Tally}
-use Rattle.load.proofs.steps.fill_session.Statement.{statement}
-use Rattle.load.proofs.steps.fill_session.Tie as tie
+use Rattle.progress.proofs.fill_counted.Statement.{statement}
+use Rattle.progress.proofs.fill_counted.Tie as tie
 
 merge-requires : tie.Need-merge-requires
 merge-requires c κs = search needs
@@ -44,7 +44,7 @@ returns c =
       profile = r .read-on .ensures j;
     }
 
-pub fill-session-spec : {M : Type 1} → statement M
-fill-session-spec =
+pub fill-counted-spec : {M : Type 1} → statement M
+fill-counted-spec =
     tie.close
     (tie.spec merge-requires read-on-requires add-t10 add-t11 returns)

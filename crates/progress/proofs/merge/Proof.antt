@@ -6,8 +6,8 @@ use native.Mathlib.Omega.{arith}
 use borrow.Author.Needs.{needs}
 use Rattle.laws.specs.Sign.{lesser, greater}
 use Rattle.laws.proofs.Signs.{back}
-use Rattle.load.proofs.steps.merge.Statement.{statement}
-use Rattle.load.proofs.steps.merge.Tie as tie
+use Rattle.progress.proofs.merge.Statement.{statement}
+use Rattle.progress.proofs.merge.Tie as tie
 
 returns : tie.Need-returns
 returns c = simp (eq-eqb _ _ (c .if1 .taken))

@@ -5,8 +5,8 @@ use Prim.Native.Nat.{_+_}
 use Rattle.laws.proofs.Signs.{back}
 use Rattle.ground.specs.Posts.{merged}
 use Rattle.ground.specs.declared.Tally.{Tally}
-use Rattle.load.proofs.steps.read_on.Statement.{statement}
-use Rattle.load.proofs.steps.read_on.Tie as tie
+use Rattle.progress.proofs.read_on.Statement.{statement}
+use Rattle.progress.proofs.read_on.Tie as tie
 
 merge-requires : tie.Need-merge-requires
 merge-requires c κs = search needs

@@ -2,7 +2,7 @@
 use mathlib.Core.List.{List}
 use Prim.Native.Nat.{ℕ, _≤_}
 use mathlib.Core.Bool.{Bool, true, false, not, cond}
-use mathlib.Core.Path.{_≡_, refl}
+use mathlib.Core.Path.{_≡_, refl, sym, _∙_, ap}
 use lib.Dec.{eqb, ltb, leb}
 use lib.ListN.{length}
 use native.Mathlib.Omega.{arith}
@@ -10,13 +10,15 @@ use borrow.Author.Tests.{eqb-true, eqb-false, ltb-false, lt-ltb, le-ltb, leb-tru
 use Rattle.frame.specs.Frame.{cellsOf}
 use Rattle.frame.specs.declared.Header.{Header}
 use Rattle.sheet.specs.RecordA.{recordA}
+use Rattle.sheet.specs.declared.Checked.{Checked}
+use Rattle.sheet.specs.declared.Checked.the-variants.{Sheet, Refused as NoSheet}
 use Rattle.session.specs.declared.Session.{Session}
 use Rattle.session.specs.Session.{sound, complete}
-use Rattle.delivery.specs.Deliver.{Verdict, Room, again, wrong, beginning, later, verdictOf}
-use Rattle.load.specs.declared.steps.Gate.{Gate}
-use Rattle.load.specs.declared.steps.Gate.the-variants.{Stop, Again, Begin, Later}
-use Rattle.load.specs.Steps.{gateBy, gateOf, Ready}
-use Rattle.load.proofs.Readiness.{ready-of}
+use Rattle.delivery.specs.Deliver.{Verdict, Room, again, wrong, begins, beginning, later, verdictOf}
+use Rattle.gate.specs.declared.verdict.Gate.{Gate}
+use Rattle.gate.specs.declared.verdict.Gate.the-variants.{Stop, Again, Begin, Later}
+use Rattle.gate.specs.Gate.{room, gateBy, gateOf, judgedOf}
+use Rattle.gate.specs.declared.verdict.Judged.{Judged}
 
 abbrev pub byGate : Session → ℕ → List ℕ → Room → Gate → Verdict
 byGate s number block m (Stop kind) = wrong kind number 0
@@ -25,9 +27,24 @@ byGate s number block m Begin = beginning m (recordA block)
 byGate s number block m Later = later s number block
 
 -- room, or too little of it
-pub enough : (h : Header) (cells : ℕ) (t : Bool) → leb (cellsOf h) cells ≡ t → ltb cells (cellsOf h) ≡ not t
+enough : (h : Header) (cells : ℕ) (t : Bool) → leb (cellsOf h) cells ≡ t → ltb cells (cellsOf h) ≡ not t
 enough h cells true e = le-ltb cells (cellsOf h) (leb-true (cellsOf h) cells e)
 enough h cells false e = lt-ltb cells (cellsOf h) (leb-false (cellsOf h) cells e)
+
+-- block 0, by what its record A says
+module _ (s : Session) (cells : ℕ) (a : Checked) where
+  abbrev firstOf : Checked → Judged
+  firstOf x = judgedOf s (beginning (room cells) x)
+
+  pub first-bad : (kind byte : ℕ) → a ≡ NoSheet kind byte → judgedOf s (wrong kind 0 byte) ≡ firstOf a
+  first-bad kind byte e = sym (ap firstOf e)
+
+  module _ (h : Header) (e : a ≡ Sheet h) where
+    pub first-short : leb (cellsOf h) cells ≡ false → judgedOf s (wrong 12 0 0) ≡ firstOf a
+    first-short t = sym (ap firstOf e ∙ rw (enough h cells false t))
+
+    pub first-good : leb (cellsOf h) cells ≡ true → judgedOf s (begins h) ≡ firstOf a
+    first-good t = sym (ap firstOf e ∙ rw (enough h cells true t))
 
 by-answers : (s : Session) (number : ℕ) (block : List ℕ) (m : Room) (whole sound held ahead first complete roomy : Bool)
     → byGate s number block m (gateBy whole sound held ahead first complete roomy)
@@ -46,7 +63,7 @@ by-answers s number block m true true false false false true g = refl
 by-answers s number block m true true false false false false false = refl
 by-answers s number block m true true false false false false true = refl
 
-pub gate-verdict : (s : Session) (number : ℕ) (block : List ℕ) (m : Room)
+gate-verdict : (s : Session) (number : ℕ) (block : List ℕ) (m : Room)
     → byGate s number block m (gateOf s number (length block) m) ≡ verdictOf s number block m
 unfolding verdictOf
 gate-verdict s number block m =
@@ -55,9 +72,15 @@ gate-verdict s number block m =
     (by-answers s number block m (eqb (length block) 1024) (sound s) (ltb number (s .taken)) (ltb (s .taken) number) (eqb number 0) (complete s)
     room)
 
+-- the verdict, by what the gate said
+pub gate-said : (s : Session) (number : ℕ) (block : List ℕ) (m : Room) {g : Gate} (x : Gate) → g ≡ gateOf s number (length block) m → g ≡ x
+    → byGate s number block m x ≡ verdictOf s number block m
+gate-said s number block m x e f = ap (byGate s number block m) (sym f ∙ e) ∙ gate-verdict s number block m
+
 -- past all of them the delivery is the next one of a sound session, and the grid is long enough
 pub record Due (s : Session) (number : ℕ) (block : List ℕ) (m : Room) : Type 0 where
-  pub ready : Ready s
+  pub sound-is : sound s ≡ true
+  pub begun : 1 ≤ s .taken
   pub taken-is : number ≡ s .taken
   pub long : length block ≡ 1024
   pub cells : cellsOf (s .header) ≤ m .cells
@@ -96,7 +119,8 @@ gate-due s number block m z =
     in
     let o : number ≡ 0 → ⊥ = eqb-false number 0 (p .first-is) in
     record {
-      ready = ready-of s (p .sound-is) (omega (arith, o, n));
+      sound-is = p .sound-is;
+      begun = omega (arith, o, n);
       taken-is = n;
       long = eqb-true (length block) 1024 (p .whole-is);
       cells = leb-true (cellsOf (s .header)) (m .cells) (p .roomy-is);

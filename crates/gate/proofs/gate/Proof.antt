@@ -1,14 +1,13 @@
 -- The first tests in their order: at each return the answers of those that were asked.
-use mathlib.Core.Bool.{true, false}
+use mathlib.Core.Bool.{true}
 use mathlib.Core.Path.{_≡_, sym, _∙_}
-use borrow.Author.Needs.{needs}
 use borrow.Author.Tests.{ne-eqb, eq-eqb, not-true, not-false, lt-ltb, le-ltb}
 use lib.Dec.{eqb, ltb, leb}
 use Rattle.frame.specs.Frame.{cellsOf}
 use Rattle.session.specs.Session.{sound, complete}
-use Rattle.load.specs.Steps.{gateBy}
-use Rattle.load.proofs.gate.Statement.{statement}
-use Rattle.load.proofs.gate.Tie as tie
+use Rattle.gate.specs.Gate.{gateBy}
+use Rattle.gate.proofs.gate.Statement.{statement}
+use Rattle.gate.proofs.gate.Tie as tie
 
 is-sound-requires : tie.Need-is-sound-requires
 is-sound-requires c κs = tt

@@ -1,0 +1,69 @@
+// The first tests of a delivery, and block 0: document 01, "What a delivery answers".
+pub mod verdict;
+
+use frame::Header;
+use session::Session;
+use sheet::Checked;
+use verdict::Gate;
+use verdict::Judged;
+ghost use mathlib.Core.Path.{_≡_};
+ghost use Prim.Native.Nat.{_^_, _<_};
+ghost use Rattle.sheet.specs.RecordA.{recordA};
+ghost use Rattle.frame.specs.Frame.{cellsOf};
+ghost use Rattle.session.specs.Session.{begun};
+ghost use Rattle.delivery.specs.Deliver.{beginning};
+ghost use Rattle.gate.specs.Gate.{room, gateOf, taken, judgedOf};
+
+// The first tests, in document 01's order.
+pub fn gate(s: Session, number: u64, bytes: usize, cells: usize) -> Gate
+    ensures { λ r. ⌜ r ≡ gateOf s number bytes (room cells) ⌝ }
+{
+    if bytes != 1024 {
+        return Gate::Stop(1);
+    }
+    if !session::is_sound(s) {
+        return Gate::Stop(2);
+    }
+    if number < s.taken {
+        return Gate::Again;
+    }
+    if s.taken < number {
+        return Gate::Stop(3);
+    }
+    if number == 0 {
+        return Gate::Begin;
+    }
+    if session::is_complete(s) {
+        return Gate::Stop(4);
+    }
+    let h = s.header;
+    if !frame::has_room(h, cells as u64) {
+        return Gate::Stop(12);
+    }
+    Gate::Later
+}
+
+// A good block 0: its header, and every cell of its sheet void.
+fn begin(h: Header) -> Judged
+    requires { ⌜ cellsOf h < 2 ^ 64 ⌝ }
+    ensures { λ r. ⌜ r ≡ taken (begun h) (cellsOf h) 0 0 ⌝ }
+{
+    let cells = frame::columns(h) * frame::rows(h);
+    verdict::taken(session::begun(h), cells, 0, 0)
+}
+
+// Block 0: its header, where the cells lent are enough.
+pub fn judge_first(s: Session, block: &[u8], cells: usize) -> Judged
+    ensures { λ r. ⌜ r ≡ judgedOf s (beginning (room cells) (recordA (now (block .entry)))) ⌝ }
+{
+    let checked = sheet::check_record_a(block);
+    match checked {
+        Checked::Refused(kind, byte) => verdict::refused(s, kind, 0, byte),
+        Checked::Sheet(h) => {
+            if frame::has_room(h, cells as u64) {
+                return begin(h);
+            }
+            verdict::refused(s, 12, 0, 0)
+        }
+    }
+}
