@@ -1,6 +1,5 @@
 // Runs a recorded line of deliveries: DESIGN, "Programs' interfaces", `replay`. Input, one call, output.
 mod output;
-mod script;
 
 use libc::STDIN_FILENO;
 use script::Cells;
@@ -97,7 +96,7 @@ fn deliveries(grid: &mut [i32]) -> Turn {
 fn run(grid: &mut [i32]) {
     let last = deliveries(grid);
     if last.stage == BAD {
-        output::write_bad();
+        output::write_word(b"bad script\n");
         return;
     }
     let s = last.session;
@@ -112,6 +111,6 @@ fn main() {
     let cells = script::cells_of(&text, got);
     match cells {
         Cells::Count(n) => run(&mut grid[..n]),
-        Cells::Bad => output::write_bad(),
+        Cells::Bad => output::write_word(b"bad script\n"),
     }
 }

@@ -1,8 +1,8 @@
 -- What a script names of a delivery lies within the grid and the block.
 use borrow.Author.Needs.{needs}
-use mathlib.Core.Path.{subst}
+use mathlib.Core.Path.{subst, sym, _∙_}
 use lib.ListN.{length}
-use Rattle.replay.specs.Script.{Within}
+use Rattle.script.proofs.Fits.{Within, head-within}
 use Rattle.replay.proofs.next_delivery.Statement.{statement}
 use Rattle.replay.proofs.next_delivery.Tie as tie
 
@@ -22,7 +22,7 @@ lend-block-requires : tie.Need-lend-block-requires
 lend-block-requires c κs =
     let d = c .before .before .before .before in
     let o = d .before .before .before .before .before in
-    let w = subst (Within (length (o .args .grid .now))) (c .before .before .head .given .1) (d .head-of .ensures .1) in
+    let w = subst (Within (length (o .args .grid .now))) (sym (d .head-of .ensures) ∙ c .before .before .head .given .1) (head-within _ _ _ _ _) in
     (w .1, w .0)
 
 enum-told : tie.Need-enum-told
