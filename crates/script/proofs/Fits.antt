@@ -1,25 +1,13 @@
 -- What a caller may lend by a script's word: cells within the grid, bytes within the block.
 use mathlib.Core.Bool.{Bool, true, false, cond}
 use mathlib.Core.Path.{_≡_, refl}
-use Prim.Native.Nat.{ℕ, _≤_}
+use Prim.Native.Nat.{ℕ}
 use lib.Dec.{eqb, ltb}
 use borrow.Author.Tests.{ltb-false}
 use Rattle.laws.proofs.Tests.{either}
-use Rattle.script.specs.declared.Cells.{Cells}
 use Rattle.script.specs.declared.Cells.the-variants.{Count, Bad as NoCount}
-use Rattle.script.specs.declared.Head.{Head}
-use Rattle.script.specs.declared.Head.the-variants.{Delivery, End, Bad}
-use Rattle.script.specs.Script.{countFrom, headFrom}
-
--- a count within the greatest grid
-abbrev pub Fitting : Cells → Type 0
-Fitting (Count n) = n ≤ 15000
-Fitting NoCount = Unit {0}
-
-abbrev pub Within : ℕ → Head → Type 0
-Within cells (Delivery lent number bytes) = (lent ≤ cells) × (bytes ≤ 4096)
-Within cells End = Unit {0}
-Within cells Bad = Unit {0}
+use Rattle.script.specs.declared.Head.the-variants.{Delivery, Bad}
+use Rattle.script.specs.Script.{countFrom, headFrom, Fitting, Within}
 
 pub count-fits : (got cells : ℕ) → Fitting (countFrom got cells)
 unfolding countFrom

@@ -1,6 +1,6 @@
 -- DESIGN, "Programs' interfaces", `replay`: what the bytes of a script say.
 use mathlib.Core.Bool.{cond}
-use Prim.Native.Nat.{ℕ}
+use Prim.Native.Nat.{ℕ, _≤_}
 use lib.Dec.{eqb, ltb}
 use Rattle.script.specs.declared.Cells.{Cells}
 use Rattle.script.specs.declared.Cells.the-variants.{Count, Bad as NoCount}
@@ -17,3 +17,14 @@ unfoldable pub headFrom : ℕ → ℕ → ℕ → ℕ → ℕ → Head
 headFrom got cells lent number bytes =
     cond (eqb got 0) End
     (cond (eqb got 12) (cond (ltb cells lent) Bad (cond (ltb 4096 bytes) Bad (Delivery lent number bytes))) Bad)
+
+-- what a caller lends by: a count within the greatest grid
+abbrev pub Fitting : Cells → Type 0
+Fitting (Count n) = n ≤ 15000
+Fitting NoCount = Unit {0}
+
+-- what a caller lends by: cells within the grid, bytes within the greatest block
+abbrev pub Within : ℕ → Head → Type 0
+Within cells (Delivery lent number bytes) = (lent ≤ cells) × (bytes ≤ 4096)
+Within cells End = Unit {0}
+Within cells Bad = Unit {0}

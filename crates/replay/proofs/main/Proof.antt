@@ -3,7 +3,8 @@ use borrow.Author.Needs.{needs}
 use mathlib.Core.Path.{subst, sym, _∙_}
 use lib.IntN.{pos}
 use Rattle.laws.proofs.Fronts.{front-of}
-use Rattle.script.proofs.Fits.{Fitting, count-fits}
+use Rattle.script.specs.Script.{Fitting}
+use Rattle.script.proofs.Fits.{count-fits}
 use Rattle.replay.proofs.main.Statement.{statement}
 use Rattle.replay.proofs.main.Tie as tie
 
