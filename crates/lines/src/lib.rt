@@ -105,7 +105,7 @@ pub fn put_report(s: Session, out: &mut [u8]) -> usize
 {
     let mut text = [0u8; 512];
     let end = report(&mut text, s);
-    numerals::put_word(out, 0, &text[0..end])
+    numerals::put_word(out, 0, &text[..end])
 }
 
 pub fn put_refusal(kind: u32, block: u64, byte: u32, out: &mut [u8]) -> usize
@@ -113,7 +113,7 @@ pub fn put_refusal(kind: u32, block: u64, byte: u32, out: &mut [u8]) -> usize
 {
     let mut text = [0u8; 512];
     let end = refusal(&mut text, kind, block, byte);
-    numerals::put_word(out, 0, &text[0..end])
+    numerals::put_word(out, 0, &text[..end])
 }
 
 pub fn put_unfinished(taken: u64, out: &mut [u8]) -> usize
@@ -121,7 +121,7 @@ pub fn put_unfinished(taken: u64, out: &mut [u8]) -> usize
 {
     let mut text = [0u8; 512];
     let end = pieces::put_last(&mut text, 0, b"unfinished ", taken);
-    numerals::put_word(out, 0, &text[0..end])
+    numerals::put_word(out, 0, &text[..end])
 }
 
 // What the end of the input prints: the report of a complete sheet, else how many blocks were taken.
