@@ -20,10 +20,10 @@ fn sheet_line(text: &mut [u8], rows: u64, columns: u64, x: u64, y: u64, z: u64) 
     ensures { λ r. ⌜ Within 216 (now (text .entry)) 0 (sheetLine rows columns x y z) (now (text .exit)) r ⌝ }
 {
     let a = pieces::put_number(text, 0, b"sheet ", rows);
-    let b = pieces::put_number(text, a, b" ", columns);
-    let c = pieces::put_number(text, b, b" ", x);
-    let d = pieces::put_number(text, c, b" ", y);
-    let e = pieces::put_units(text, d, b" ", z);
+    let b = pieces::put_next(text, a, columns);
+    let c = pieces::put_next(text, b, x);
+    let d = pieces::put_next(text, c, y);
+    let e = pieces::put_units(text, d, z);
     numerals::put_byte(text, e, FEED)
 }
 
@@ -94,8 +94,9 @@ fn refusal(text: &mut [u8], kind: u32, block: u64, byte: u32) -> usize
     ensures { λ r. ⌜ Within 144 (now (text .entry)) 0 (refusedText kind block byte) (now (text .exit)) r ⌝ }
 {
     let a = pieces::put_number(text, 0, b"refused ", kind as u64);
-    let b = pieces::put_number(text, a, b" ", block);
-    pieces::put_last(text, b, b" ", byte as u64)
+    let b = pieces::put_next(text, a, block);
+    let c = pieces::put_next(text, b, byte as u64);
+    numerals::put_byte(text, c, FEED)
 }
 
 // The four lines of a sheet. Answers the bytes used; none, and nothing changed, where they do not fit. So do the others below.
@@ -104,7 +105,7 @@ pub fn put_report(s: Session, out: &mut [u8]) -> usize
 {
     let mut text = [0u8; 512];
     let end = report(&mut text, s);
-    numerals::put_word(out, 0, &text[0..end])
+    numerals::put_word(out, 0, &text[..end])
 }
 
 pub fn put_refusal(kind: u32, block: u64, byte: u32, out: &mut [u8]) -> usize
@@ -112,7 +113,7 @@ pub fn put_refusal(kind: u32, block: u64, byte: u32, out: &mut [u8]) -> usize
 {
     let mut text = [0u8; 512];
     let end = refusal(&mut text, kind, block, byte);
-    numerals::put_word(out, 0, &text[0..end])
+    numerals::put_word(out, 0, &text[..end])
 }
 
 pub fn put_unfinished(taken: u64, out: &mut [u8]) -> usize
@@ -120,7 +121,7 @@ pub fn put_unfinished(taken: u64, out: &mut [u8]) -> usize
 {
     let mut text = [0u8; 512];
     let end = pieces::put_last(&mut text, 0, b"unfinished ", taken);
-    numerals::put_word(out, 0, &text[0..end])
+    numerals::put_word(out, 0, &text[..end])
 }
 
 // What the end of the input prints: the report of a complete sheet, else how many blocks were taken.

@@ -8,6 +8,8 @@ ghost use Rattle.lines.specs.Pieces.{Within};
 
 pub(crate) const FEED: u8 = 10;
 
+const BLANK: u8 = 32;
+
 const POINT: u8 = 46;
 
 fn put_hundredths(text: &mut [u8], at: usize, n: u64) -> usize
@@ -28,6 +30,15 @@ pub(crate) fn put_number(text: &mut [u8], at: usize, word: &[u8], n: u64) -> usi
     numerals::put_number(text, first, n)
 }
 
+// A blank and a whole number.
+pub(crate) fn put_next(text: &mut [u8], at: usize, n: u64) -> usize
+    requires { ⌜ at + 36 ≤ length (now text) ⌝ }
+    ensures { λ r. ⌜ Within 36 (now (text .entry)) at (32 ∷ numeral n) (now (text .exit)) r ⌝ }
+{
+    let first = numerals::put_byte(text, at, BLANK);
+    numerals::put_number(text, first, n)
+}
+
 // The last number of a line, after its word, and the line feed.
 pub(crate) fn put_last(text: &mut [u8], at: usize, word: &[u8], n: u64) -> usize
     requires { ⌜ (at + 72 ≤ length (now text)) × (length (now word) ≤ 12) ⌝ }
@@ -37,16 +48,16 @@ pub(crate) fn put_last(text: &mut [u8], at: usize, word: &[u8], n: u64) -> usize
     numerals::put_byte(text, end, FEED)
 }
 
-// A word and hundredths as units with two decimals.
-pub(crate) fn put_units(text: &mut [u8], at: usize, word: &[u8], n: u64) -> usize
-    requires { ⌜ (at + 36 ≤ length (now text)) × (length (now word) ≤ 12) ⌝ }
-    ensures { λ r. ⌜ Within 36 (now (text .entry)) at (now (word .entry) ++ units n) (now (text .exit)) r ⌝ }
+// A blank and hundredths as units with two decimals.
+pub(crate) fn put_units(text: &mut [u8], at: usize, n: u64) -> usize
+    requires { ⌜ at + 36 ≤ length (now text) ⌝ }
+    ensures { λ r. ⌜ Within 36 (now (text .entry)) at (32 ∷ units n) (now (text .exit)) r ⌝ }
 {
-    let first = numerals::put_word(text, at, word);
+    let first = numerals::put_byte(text, at, BLANK);
     put_hundredths(text, first, n)
 }
 
-// The same of a height, which may lie below zero.
+// A word and a height, which may lie below zero.
 pub(crate) fn put_height(text: &mut [u8], at: usize, word: &[u8], z: i64) -> usize
     requires { ⌜ (at + 36 ≤ length (now text)) × (length (now word) ≤ 12) ⌝ }
     ensures { λ r. ⌜ Within 36 (now (text .entry)) at (now (word .entry) ++ hundredths z) (now (text .exit)) r ⌝ }

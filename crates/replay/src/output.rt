@@ -3,69 +3,58 @@ use delivery::Answer;
 use libc::STDOUT_FILENO;
 use session::Session;
 
-fn write_word(word: &[u8]) {
+pub(crate) fn write_word(word: &[u8]) {
     io::write_all(STDOUT_FILENO, word);
 }
 
-fn write_number(n: u64) {
+fn write_byte(byte: u8) {
+    write_word(&[byte]);
+}
+
+// A number, and the byte behind it.
+fn write_number(n: u64, next: u8) {
     io::print_decimal(STDOUT_FILENO, n);
+    write_byte(next);
 }
 
-fn write_signed(z: i64) {
+fn write_signed(z: i64, next: u8) {
     if z < 0 {
-        write_word(b"-");
+        write_byte(b'-');
     }
-    write_number(number::size_of(z));
+    write_number(number::size_of(z), next);
 }
 
-pub(crate) fn write_bad() {
-    write_word(b"bad script\n");
+fn write_refusal(kind: u32, block: u64, byte: u32) {
+    write_word(b"refused ");
+    write_number(kind as u64, b' ');
+    write_number(block, b' ');
+    write_number(byte as u64, b'\n');
 }
 
 pub(crate) fn write_answer(answer: Answer) {
     match answer {
         Answer::Taken => write_word(b"taken\n"),
         Answer::Held => write_word(b"held\n"),
-        Answer::Refused(kind, block, byte) => {
-            write_word(b"refused ");
-            write_number(kind as u64);
-            write_word(b" ");
-            write_number(block);
-            write_word(b" ");
-            write_number(byte as u64);
-            write_word(b"\n");
-        }
+        Answer::Refused(kind, block, byte) => write_refusal(kind, block, byte),
     }
 }
 
 pub(crate) fn write_session(s: Session) {
     write_word(b"session ");
-    write_number(s.taken);
-    write_word(b" ");
-    write_number(s.closed);
-    write_word(b" ");
-    write_number(s.posts);
-    write_word(b" ");
-    write_number(s.filled);
-    write_word(b" ");
-    write_signed(s.low);
-    write_word(b" ");
-    write_signed(s.high);
-    write_word(b"\n");
-}
-
-fn write_cell(z: i32) {
-    write_signed(z as i64);
-    write_word(b"\n");
+    write_number(s.taken, b' ');
+    write_number(s.closed, b' ');
+    write_number(s.posts, b' ');
+    write_number(s.filled, b' ');
+    write_signed(s.low, b' ');
+    write_signed(s.high, b'\n');
 }
 
 pub(crate) fn write_cells(grid: &[i32]) {
     write_word(b"cells ");
-    write_number(grid.len() as u64);
-    write_word(b"\n");
+    write_number(grid.len() as u64, b'\n');
     let mut i = 0;
     while i < grid.len() {
-        write_cell(grid[i]);
+        write_signed(grid[i] as i64, b'\n');
         i += 1;
     }
 }

@@ -1,6 +1,7 @@
 -- What was put in the scratch is the whole text, and that is what is given.
 use borrow.Author.Needs.{needs}
-use Rattle.numerals.proofs.Pieces.{front}
+use mathlib.Core.Path.{sym}
+use lib.Seq.{length-take-le}
 use Rattle.lines.proofs.Putting.{given-front, given-of}
 use Rattle.lines.proofs.put_report.Statement.{statement}
 use Rattle.lines.proofs.put_report.Tie as tie
@@ -11,17 +12,14 @@ slice-aggregate-report c = search needs
 report-requires : tie.Need-report-requires
 report-requires c κs = search needs
 
-sub-put-word : tie.Need-sub-put-word
-sub-put-word c = search needs
+array-share-prefix-text : tie.Need-array-share-prefix-text
+array-share-prefix-text c = search needs
 
-part-put-word-start : tie.Need-part-put-word-start
-part-put-word-start c = search needs
-
-part-put-word-end : tie.Need-part-put-word-end
-part-put-word-end c = search needs
+slice-aggregate-put-word : tie.Need-slice-aggregate-put-word
+slice-aggregate-put-word c = sym (length-take-le _ _ (search needs))
 
 put-word-requires : tie.Need-put-word-requires
-put-word-requires c κs = tt
+put-word-requires c κs = search needs
 
 same-length : tie.Need-same-length
 same-length c = search needs
@@ -29,9 +27,9 @@ same-length c = search needs
 returns : tie.Need-returns
 returns c =
     let g = c .before .before in
-    let b = g .before .before .before .before .before in
+    let b = g .before .before .before .before in
     let o = b .before .before .before in
-    given-of (o .args .out .now) (front (b .report .ensures .puts)) (given-front (g .put-word .ensures))
+    given-of (o .args .out .now) (b .report .ensures .puts .text) (given-front (g .put-word .ensures))
 
 pub put-report-spec : {M : Type 1} → statement M
 put-report-spec =
@@ -39,9 +37,8 @@ put-report-spec =
     (tie.spec
     slice-aggregate-report
     report-requires
-    sub-put-word
-    part-put-word-start
-    part-put-word-end
+    array-share-prefix-text
+    slice-aggregate-put-word
     put-word-requires
     same-length
     returns)

@@ -1,6 +1,7 @@
 -- What was put in the scratch is the whole text, and that is what is given.
 use borrow.Author.Needs.{needs}
-use Rattle.numerals.proofs.Pieces.{front}
+use mathlib.Core.Path.{sym}
+use lib.Seq.{length-take-le}
 use Rattle.lines.specs.Lines.{unfinishedText}
 use Rattle.lines.proofs.Putting.{given-front, given-of}
 use Rattle.lines.proofs.put_unfinished.Statement.{statement}
@@ -15,17 +16,14 @@ slice-aggregate-put-last-2 c = search needs
 put-last-requires : tie.Need-put-last-requires
 put-last-requires c κs = search needs
 
-sub-put-word : tie.Need-sub-put-word
-sub-put-word c = search needs
+array-share-prefix-text : tie.Need-array-share-prefix-text
+array-share-prefix-text c = search needs
 
-part-put-word-start : tie.Need-part-put-word-start
-part-put-word-start c = search needs
-
-part-put-word-end : tie.Need-part-put-word-end
-part-put-word-end c = search needs
+slice-aggregate-put-word : tie.Need-slice-aggregate-put-word
+slice-aggregate-put-word c = sym (length-take-le _ _ (search needs))
 
 put-word-requires : tie.Need-put-word-requires
-put-word-requires c κs = tt
+put-word-requires c κs = search needs
 
 same-length : tie.Need-same-length
 same-length c = search needs
@@ -34,9 +32,9 @@ returns : tie.Need-returns
 unfolding unfinishedText
 returns c =
     let g = c .before .before in
-    let b = g .before .before .before .before .before in
+    let b = g .before .before .before .before in
     let o = b .before .before .before .before in
-    given-of (o .args .out .now) (front (b .put-last .ensures .puts)) (given-front (g .put-word .ensures))
+    given-of (o .args .out .now) (b .put-last .ensures .puts .text) (given-front (g .put-word .ensures))
 
 pub put-unfinished-spec : {M : Type 1} → statement M
 put-unfinished-spec =
@@ -45,9 +43,8 @@ put-unfinished-spec =
     slice-aggregate-put-last
     slice-aggregate-put-last-2
     put-last-requires
-    sub-put-word
-    part-put-word-start
-    part-put-word-end
+    array-share-prefix-text
+    slice-aggregate-put-word
     put-word-requires
     same-length
     returns)

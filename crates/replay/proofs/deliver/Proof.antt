@@ -1,21 +1,22 @@
--- The front of the grid that is lent has as many cells as were asked for.
+-- The bytes and the front of the grid that are lent are as many as were asked for.
 use borrow.Author.Needs.{needs}
 use mathlib.Core.Path.{sym, ap}
-use lib.Seq.{length-take-le}
 use mathlib.Core.List.{List, _++_}
 use lib.IntN.{ℤ}
 use lib.ListN.{drop}
-use Rattle.replay.specs.Turns.{turnAfter}
+use lib.Seq.{length-take-le}
+use Rattle.delivery.specs.declared.Delivered.{Delivered}
 use Rattle.replay.proofs.deliver.Statement.{statement}
 use Rattle.replay.proofs.deliver.Tie as tie
+
+slice-aggregate-deliver : tie.Need-slice-aggregate-deliver
+slice-aggregate-deliver c = sym (length-take-le _ _ (search needs))
 
 slice-relend-prefix-deliver : tie.Need-slice-relend-prefix-deliver
 slice-relend-prefix-deliver c = search needs
 
-slice-aggregate-deliver : tie.Need-slice-aggregate-deliver
-slice-aggregate-deliver c =
-    let o = c .before .before in
-    sym (length-take-le (o .args .lent) (o .args .grid .now) (o .pre))
+slice-aggregate-deliver-2 : tie.Need-slice-aggregate-deliver-2
+slice-aggregate-deliver-2 c = sym (length-take-le _ _ (search needs))
 
 deliver-requires : tie.Need-deliver-requires
 deliver-requires c κs = search needs
@@ -29,15 +30,16 @@ same-length c = search needs
 returns : tie.Need-returns
 returns c =
     let d = c .before .before .before in
-    let o = d .before .before .before in
-    (ap turnAfter (d .deliver .ensures .0), ap (λ (l : List ℤ). l ++ drop (o .args .lent) (o .args .grid .now)) (d .deliver .ensures .1))
+    let o = d .before .before .before .before in
+    (ap (λ (x : Delivered). x .session) (d .deliver .ensures .0), ap (λ (l : List ℤ). l ++ drop (o .args .next .lent) (o .args .grid .now)) (d .deliver .ensures .1))
 
 pub deliver-spec : {M : Type 1} → statement M
 deliver-spec =
     tie.close
     (tie.spec
-    slice-relend-prefix-deliver
     slice-aggregate-deliver
+    slice-relend-prefix-deliver
+    slice-aggregate-deliver-2
     deliver-requires
     write-answer-requires
     same-length

@@ -1,9 +1,10 @@
 -- The front of the grid that is run has as many cells as the script names.
 use borrow.Author.Needs.{needs}
-use mathlib.Core.Path.{subst}
+use mathlib.Core.Path.{subst, sym, _∙_}
 use lib.IntN.{pos}
 use Rattle.laws.proofs.Fronts.{front-of}
-use Rattle.replay.specs.Script.{Fitting}
+use Rattle.script.specs.Script.{Fitting}
+use Rattle.script.proofs.Fits.{count-fits}
 use Rattle.replay.proofs.main.Statement.{statement}
 use Rattle.replay.proofs.main.Tie as tie
 
@@ -20,12 +21,14 @@ enum-known-cells : tie.Need-enum-known-cells
 enum-known-cells c = search needs
 
 array-borrow-prefix-grid : tie.Need-array-borrow-prefix-grid
-array-borrow-prefix-grid c = subst Fitting (c .before .cells .given .1) (c .before .before .before .cells-of .ensures .1)
+array-borrow-prefix-grid c =
+    subst Fitting (sym (c .before .before .before .cells-of .ensures) ∙ c .before .cells .given .1) (count-fits _ _)
 
 slice-aggregate-run : tie.Need-slice-aggregate-run
 slice-aggregate-run c =
     let k = c .before .before in
-    front-of (k .cells .given .0 .0) 15000 (pos 7) (subst Fitting (k .cells .given .1) (k .before .before .cells-of .ensures .1))
+    front-of (k .cells .given .0 .0) 15000 (pos 7)
+    (subst Fitting (sym (k .before .before .cells-of .ensures) ∙ k .cells .given .1) (count-fits _ _))
 
 run-requires : tie.Need-run-requires
 run-requires c κs = search needs
@@ -33,8 +36,11 @@ run-requires c κs = search needs
 enum-told : tie.Need-enum-told
 enum-told c = search needs
 
-write-bad-requires : tie.Need-write-bad-requires
-write-bad-requires c κs = search needs
+slice-aggregate-write-word : tie.Need-slice-aggregate-write-word
+slice-aggregate-write-word c = search needs
+
+write-word-requires : tie.Need-write-word-requires
+write-word-requires c κs = search needs
 
 returns : tie.Need-returns
 returns c = search needs
@@ -54,6 +60,7 @@ main-spec =
     slice-aggregate-run
     run-requires
     enum-told
-    write-bad-requires
+    slice-aggregate-write-word
+    write-word-requires
     returns
     returns-2)

@@ -1,6 +1,9 @@
--- Each cell's line is written: safe, and it ends. The measure is the cells that are left.
+-- Each cell's line is written: safe, and it ends. The measure is the cells that are left. A number of 32 bits is one of 64.
 use Prim.Native.Nat.{_≤_, _-_}
-use lib.ListN.{length}
+use lib.ListN.{length, getD}
+use lib.IntN.{pos}
+use mir.Syntax.{w32}
+use mir.Facts.{sfits-widen, sfits-toZ, fits-ofZ}
 use borrow.Author.Needs.{needs}
 use native.Mathlib.Omega.{arith}
 use Rattle.replay.proofs.output.write_cells.Statement.{statement}
@@ -21,23 +24,23 @@ write-word-requires c κs = tt
 write-number-requires : tie.Need-write-number-requires Inv-loop μ-loop
 write-number-requires c κs = tt
 
-slice-aggregate-write-word-2 : tie.Need-slice-aggregate-write-word-2 Inv-loop μ-loop
-slice-aggregate-write-word-2 c = search needs
-
-write-word-requires-2 : tie.Need-write-word-requires-2 Inv-loop μ-loop
-write-word-requires-2 c κs = tt
-
 loop-holds : tie.Need-loop-holds Inv-loop μ-loop
 loop-holds c = omega arith
 
-mul-write-cell : tie.Need-mul-write-cell Inv-loop μ-loop
-mul-write-cell c = search needs
+mul-write-signed : tie.Need-mul-write-signed Inv-loop μ-loop
+mul-write-signed c = search needs
 
-shared-slice-copy-out-write-cell : tie.Need-shared-slice-copy-out-write-cell Inv-loop μ-loop
-shared-slice-copy-out-write-cell c = omega arith
+shared-slice-copy-out-write-signed : tie.Need-shared-slice-copy-out-write-signed Inv-loop μ-loop
+shared-slice-copy-out-write-signed c = omega arith
 
-write-cell-requires : tie.Need-write-cell-requires Inv-loop μ-loop
-write-cell-requires c κs = tt
+cast-write-signed : tie.Need-cast-write-signed Inv-loop μ-loop
+cast-write-signed c =
+    let o = c .before .before .before .before .before .before in
+    sfits-widen {w = w32} tt
+    (sfits-toZ (fits-ofZ {z = getD (o .args .grid .now) (c .before .before .loop .i) (pos 0)} (record { sfits = c .write-signed-arg .given })))
+
+write-signed-requires : tie.Need-write-signed-requires Inv-loop μ-loop
+write-signed-requires c κs = tt
 
 add-i : tie.Need-add-i Inv-loop μ-loop
 add-i c = omega arith
@@ -60,12 +63,11 @@ write-cells-spec =
     slice-aggregate-write-word
     write-word-requires
     write-number-requires
-    slice-aggregate-write-word-2
-    write-word-requires-2
     loop-holds
-    mul-write-cell
-    shared-slice-copy-out-write-cell
-    write-cell-requires
+    mul-write-signed
+    shared-slice-copy-out-write-signed
+    cast-write-signed
+    write-signed-requires
     add-i
     loop-less
     loop-again

@@ -2,9 +2,9 @@
 use mathlib.Core.Path.{_≡_, _∙_, ap}
 use Prim.Native.Nat.{ℕ}
 use borrow.Author.Needs.{needs}
-use Rattle.replay.specs.Script.{headFrom}
-use Rattle.replay.proofs.script.head_of.Statement.{statement}
-use Rattle.replay.proofs.script.head_of.Tie as tie
+use Rattle.script.specs.Script.{headFrom}
+use Rattle.script.proofs.head_of.Statement.{statement}
+use Rattle.script.proofs.head_of.Tie as tie
 
 same-head : (got cells : ℕ) {a a′ b b′ d d′ : ℕ} → a ≡ a′ → b ≡ b′ → d ≡ d′ → headFrom got cells a b d ≡ headFrom got cells a′ b′ d′
 same-head got cells {a} {a′} {b} {b′} {d} {d′} p q r =
@@ -24,14 +24,12 @@ head-from-requires c κs = search needs
 
 returns : tie.Need-returns
 returns c =
-    let o = c .before .before .before .before .before .before .before in (
-      c .head-from .ensures .0
-          ∙ same-head (o .args .got) (o .args .cells)
-          (c .before .before .before .before .before .number-at .ensures .0)
-          (c .before .before .before .number-at2 .ensures .0)
-          (c .before .number-at3 .ensures .0),
-      c .head-from .ensures .1,
-    )
+    let o = c .before .before .before .before .before .before .before in
+    c .head-from .ensures
+    ∙ same-head (o .args .got) (o .args .cells)
+    (c .before .before .before .before .before .number-at .ensures .0)
+    (c .before .before .before .number-at2 .ensures .0)
+    (c .before .number-at3 .ensures .0)
 
 pub head-of-spec : {M : Type 1} → statement M
 head-of-spec =

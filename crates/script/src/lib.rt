@@ -1,7 +1,7 @@
-// What the bytes of a script say.
+// What the bytes of a script say. Here because nothing of it needs a session or a delivery; `replay` reads the bytes and goes by the answers.
 ghost use mathlib.Core.Path.{_≡_};
 ghost use Rattle.words.specs.Words.{numberAt};
-ghost use Rattle.replay.specs.Script.{countFrom, headFrom, Within, Fitting};
+ghost use Rattle.script.specs.Script.{countFrom, headFrom};
 
 // How many cells the grid has.
 pub enum Cells {
@@ -17,7 +17,7 @@ pub enum Head {
 }
 
 fn count_from(got: usize, cells: u64) -> Cells
-    ensures { λ r. ⌜ (r ≡ countFrom got cells) × Fitting r ⌝ }
+    ensures { λ r. ⌜ r ≡ countFrom got cells ⌝ }
 {
     if got != 4 {
         return Cells::Bad;
@@ -29,14 +29,14 @@ fn count_from(got: usize, cells: u64) -> Cells
 }
 
 // The input's first bytes, of which `got` could be read.
-pub(crate) fn cells_of(text: &[u8; 4], got: usize) -> Cells
-    ensures { λ r. ⌜ (r ≡ countFrom got (numberAt (now (text .entry)) 0)) × Fitting r ⌝ }
+pub fn cells_of(text: &[u8; 4], got: usize) -> Cells
+    ensures { λ r. ⌜ r ≡ countFrom got (numberAt (now (text .entry)) 0) ⌝ }
 {
     count_from(got, words::number_at(text, 0))
 }
 
 fn head_from(got: usize, cells: usize, lent: u64, number: u64, bytes: u64) -> Head
-    ensures { λ r. ⌜ (r ≡ headFrom got cells lent number bytes) × Within cells r ⌝ }
+    ensures { λ r. ⌜ r ≡ headFrom got cells lent number bytes ⌝ }
 {
     if got == 0 {
         return Head::End;
@@ -54,8 +54,8 @@ fn head_from(got: usize, cells: usize, lent: u64, number: u64, bytes: u64) -> He
 }
 
 // The next bytes, of which `got` could be read.
-pub(crate) fn head_of(text: &[u8; 12], got: usize, cells: usize) -> Head
-    ensures { λ r. ⌜ (r ≡ headFrom got cells (numberAt (now (text .entry)) 0) (numberAt (now (text .entry)) 4) (numberAt (now (text .entry)) 8)) × Within cells r ⌝ }
+pub fn head_of(text: &[u8; 12], got: usize, cells: usize) -> Head
+    ensures { λ r. ⌜ r ≡ headFrom got cells (numberAt (now (text .entry)) 0) (numberAt (now (text .entry)) 4) (numberAt (now (text .entry)) 8) ⌝ }
 {
     let lent = words::number_at(text, 0);
     let block = words::number_at(text, 4);
