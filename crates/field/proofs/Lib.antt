@@ -1,2 +1,4 @@
 pub mod Stretches
 pub mod Ranges
+pub mod Rules
+pub mod FieldRules

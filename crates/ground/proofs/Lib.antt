@@ -4,3 +4,4 @@ pub mod Tallies
 pub mod MergedTallies
 pub mod BlockCounts
 pub mod PostsRead
+pub mod PostRules

@@ -1,3 +1,4 @@
 pub mod Blocks
 pub mod Posts
 pub mod Extremes
+pub mod RulesPosts

@@ -2,3 +2,4 @@ pub mod Parts
 pub mod Datum
 pub mod Verdicts
 pub mod RecordLaws
+pub mod RecordRules

@@ -1,34 +1,29 @@
--- A head is answered, and a record C passes, exactly when the block is 1,024 bytes and no field is at fault; and the bounds of what a head says.
+-- The bounds of what a head says, from its fields, of which none is at fault where a head is answered.
 use mathlib.Core.List.{List, [], _∷_}
-use mathlib.Core.Path.{_≡_, refl, sym, ap, subst}
-use borrow.Author.Tests.{eqb-true, eqb-false, eq-eqb, leb-true}
+use mathlib.Core.Path.{_≡_, refl, sym, subst}
+use borrow.Author.Tests.{eqb-true, eqb-false, leb-true}
 use lib.Dec.{eqb, leb}
 use mathlib.Core.Bool.{Bool, true, cond}
-use mathlib.Core.Logic.{_↔_}
 use Prim.Native.Nat.{ℕ, _%_, _≤_, suc, _/_, _^_, _*_}
 use native.Mathlib.Omega.{arith}
-use lib.ListN.{length, drop}
+use lib.ListN.{length}
 use lib.IntN.{ℤ, pos, negsuc, natAbs}
 use native.Mathlib.Nat.{div-le-of-le-mul}
-use Rattle.laws.specs.Texts.{every}
 use Rattle.laws.specs.Sign.{_and_, notNegative}
 use Rattle.laws.proofs.Tests.{by-test, clash, and-first, and-second}
 use Rattle.laws.proofs.Integers.{size-minus}
-use Rattle.number.specs.Bytes.{isBlank}
 use Rattle.number.specs.declared.Reading.{Reading}
 use Rattle.number.specs.Integer.{refused, integer}
 use Rattle.number.specs.Real.{real}
 use Rattle.number.proofs.Limits.{Limited, real-limits}
-use Rattle.field.specs.Field.{Judged, firstOf, fault, inLimits, limits, restFault, stretch, realAt}
-use Rattle.field.specs.declared.Fault.{Fault}
+use Rattle.field.specs.Field.{Judged, firstOf, inLimits, limits, stretch, realAt}
 use Rattle.field.specs.declared.Limits.{Limits}
 use Rattle.profile.specs.RecordB.{headFields, headFault, headOf, recordB, hundredths, isDatum}
-use Rattle.profile.specs.RecordC.{fieldsC, recordC}
 use Rattle.profile.specs.declared.record_b.Head.{Head}
 use Rattle.profile.specs.declared.record_b.Headed.the-variants.{Profile, Refused}
 
 -- every field's reading has kind 0
-abbrev pub AllRead : List Judged → Type 0
+abbrev AllRead : List Judged → Type 0
 AllRead [] = Unit {0}
 AllRead (j ∷ js) = (j .reading .kind ≡ 0) × AllRead js
 
@@ -39,84 +34,27 @@ all-read (j ∷ js) z =
     by-test (eqb (j .reading .kind) 0) (λ e. (eqb-true (j .reading .kind) 0 e, go (rw e at z)))
     (λ e. absurd (eqb-false (j .reading .kind) 0 e (rw e at z)))
 
-none-first : (js : List Judged) → AllRead js → firstOf js ≡ fault 0 0
-none-first [] r = refl
-none-first (j ∷ js) r = rw (eq-eqb (j .reading .kind) 0 (r .0)) (none-first js (r .1))
-
-module _ (block : List ℕ) where
-  abbrev long : Bool
-  long = eqb (length block) 1024
-
-  -- a fault of the length, or one that comes after it
-  length-first : (f : Fault) → cond long f (fault 1 0) .kind ≡ 0 → (length block ≡ 1024) × (f .kind ≡ 0)
-  length-first f z =
-      by-test long (λ e. (eqb-true (length block) 1024 e, rw e at z))
+module _ (number : ℕ) (block : List ℕ) (h : Head) (p : recordB number block ≡ Profile h) where
+  -- a head is answered where there is no fault, and it is what the fields say
+  pub head-answered : (headFault number block .kind ≡ 0) × (h ≡ headOf block)
+  unfolding recordB
+  head-answered =
+      by-test (eqb (headFault number block .kind) 0)
       (λ e.
-      let q : _≡_ {A = ℕ} 1 0 = rw e at z in
+      let q : Profile (headOf block) ≡ Profile h = rw e at p in
+      let k : h ≡ headOf block = cc in
+      (eqb-true (headFault number block .kind) 0 e, k))
+      (λ e.
+      let q : Refused (headFault number block .kind) (headFault number block .byte) ≡ Profile h = rw e at p in
+      let z : _≡_ {A = ℕ} 0 1 = cc in
       absurd (omega arith))
 
-  module _ (number : ℕ) (h : Head) where
-    -- the length, the nine readings, and then the head is what the fields say
-    abbrev pub HeadRead : Type 0
-    HeadRead = (length block ≡ 1024) × AllRead (headFields number block) × (h ≡ headOf block)
-
-    head-read : recordB number block ≡ Profile h → HeadRead
-    unfolding recordB
-    head-read p =
-        by-test (eqb (headFault number block .kind) 0)
-        (λ e.
-        let q : Profile (headOf block) ≡ Profile h = rw e at p in
-        let k : h ≡ headOf block = cc in
-        let l = length-first (firstOf (headFields number block)) (eqb-true (headFault number block .kind) 0 e) in
-        (l .0, all-read (headFields number block) (l .1), k))
-        (λ e.
-        let q : Refused (headFault number block .kind) (headFault number block .byte) ≡ Profile h = rw e at p in
-        let z : _≡_ {A = ℕ} 0 1 = cc in
-        absurd (omega arith))
-
-    read-head : HeadRead → recordB number block ≡ Profile h
-    unfolding recordB
-    read-head r =
-        let e : headFault number block ≡ fault 0 0 =
-        rw (eq-eqb (length block) 1024 (r .0)) (none-first (headFields number block) (r .1))
-        in
-        simp e (ap Profile (sym (r .2)))
-
-    pub head-exactly : (recordB number block ≡ Profile h) ↔ HeadRead
-    head-exactly = (head-read, read-head)
-
-  -- the length, the ten readings and the blank rest
-  abbrev pub CRead : Type 0
-  CRead = (length block ≡ 1024) × AllRead (fieldsC block) × (every isBlank (drop 60 block) ≡ true)
-
-  abbrev fieldFault : Fault
-  fieldFault = firstOf (fieldsC block)
-
-  -- a fault of the rest comes after those of the fields
-  rest-last : cond (eqb (fieldFault .kind) 0) (restFault 61 block) fieldFault .kind ≡ 0
-      → (fieldFault .kind ≡ 0) × (every isBlank (drop 60 block) ≡ true)
-  rest-last z =
-      by-test (eqb (fieldFault .kind) 0)
+  nine-read : AllRead (headFields number block)
+  nine-read =
+      by-test (eqb (length block) 1024) (λ e. all-read (headFields number block) (rw e at head-answered .0))
       (λ e.
-      by-test (every isBlank (drop 60 block)) (λ b. (eqb-true (fieldFault .kind) 0 e, b))
-      (λ b.
-      let q : _≡_ {A = ℕ} 5 0 = rw (e, b) at z in
-      absurd (omega arith)))
-      (λ e. absurd (eqb-false (fieldFault .kind) 0 e (rw e at z)))
-
-  c-read : recordC block ≡ fault 0 0 → CRead
-  unfolding recordC
-  c-read p =
-      let l = length-first (cond (eqb (fieldFault .kind) 0) (restFault 61 block) fieldFault) (ap (λ (f : Fault). f .kind) p) in
-      let r = rest-last (l .1) in
-      (l .0, all-read (fieldsC block) (r .0), r .1)
-
-  read-c : CRead → recordC block ≡ fault 0 0
-  unfolding recordC
-  read-c r = simp (eq-eqb (length block) 1024 (r .0), none-first (fieldsC block) (r .1), r .2)
-
-  pub record-c-exactly : (recordC block ≡ fault 0 0) ↔ CRead
-  record-c-exactly = (c-read, read-c)
+      let q : _≡_ {A = ℕ} 1 0 = rw e at head-answered .0 in
+      absurd (omega arith))
 
 -- a field with a rule of its own reads, and its value keeps the rule
 own-rule : (t : Bool) (k : ℕ) (r : Reading) → (k ≡ 0 → ⊥) → cond (eqb (r .kind) 0) (cond t r (refused k)) r .kind ≡ 0
@@ -144,10 +82,10 @@ datum-size z t =
 
 module _ (number : ℕ) (block : List ℕ) (h : Head) (p : recordB number block ≡ Profile h) where
   abbrev nine : AllRead (headFields number block)
-  nine = head-read block number h p .1
+  nine = nine-read number block h p
 
   head-is : headOf block ≡ h
-  head-is = sym (head-read block number h p .2)
+  head-is = sym (head-answered number block h p .1)
 
   pub head-bounds : (1 ≤ h .posts) × (h .posts ≤ 2048) × (natAbs (h .datum) ≤ 1000000)
   head-bounds =

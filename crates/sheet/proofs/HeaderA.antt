@@ -22,8 +22,8 @@ use Rattle.heading.proofs.LimitKinds.{limits-kind}
 use Rattle.sheet.specs.RecordA.{Row, judgeRow, firstFault, row, fields, recordA}
 use Rattle.sheet.specs.RecordA.Rule.{words}
 use Rattle.sheet.specs.RecordASteps.{rowAt, placeOf, rowFrom, numberFrom, headerFrom}
-use Rattle.sheet.specs.RulesA.{kindOf}
 use Rattle.sheet.specs.declared.Checked.the-variants.{Sheet, Refused}
+use Rattle.sheet.proofs.RowRules.{kindOf}
 
 -- no fault is found where no row has one
 rows-fine : (block : List ℕ) (rs : List Row) (d : Row) → firstFault block rs .kind ≡ 0 → (i : ℕ) → i < length rs

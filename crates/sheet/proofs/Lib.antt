@@ -1,5 +1,5 @@
 pub mod TableA
+pub mod RowRules
 pub mod HeaderA
-pub mod FieldRules
 pub mod RulesA
 pub mod SheetObeys

@@ -1,70 +1,43 @@
 -- The verdict on a block is its first broken rule, or its header where it keeps all: carried by an induction over the rows.
 use mathlib.Core.Bool.{Bool, true, false, cond}
-use mathlib.Core.List.{List, [], _∷_}
+use mathlib.Core.List.{List, [], _∷_, _++_}
 use mathlib.Core.Logic.{_⊎_, inl, inr, _↔_}
 use mathlib.Core.Path.{_≡_, sym, _∙_, refl, ap}
 use Prim.Native.Nat.{ℕ, _+_, _-_}
-use borrow.Author.Tests.{eqb-false, not-true, leb-true, eq-eqb, ne-eqb, eqb-true}
+use borrow.Author.Tests.{eqb-false, leb-true, eq-eqb, ne-eqb, eqb-true}
 use lib.ListN.{length}
 use lib.Dec.{leb, eqb}
 use native.Mathlib.Omega.{arith}
 use Rattle.laws.specs.Sign.{_and_}
-use Rattle.laws.proofs.Tests.{clash, by-test, and-first, and-second}
+use Rattle.laws.proofs.Tests.{by-test, and-first, and-second}
 use Rattle.laws.proofs.Tables.{all}
 use Rattle.field.specs.declared.Fault.{Fault}
 use Rattle.field.specs.Field.{fault}
+use Rattle.field.specs.Rules.{Clause, KeepsAll, FirstBroken}
+use Rattle.field.proofs.Rules.{named, brokenOr, first-append, kept-or-broken, keeps-first, broken-first, broken-named}
+use Rattle.field.proofs.FieldRules.{Says}
 use Rattle.frame.specs.Frame.{wholeFault}
 use Rattle.frame.specs.declared.Header.{Header}
 use Rattle.heading.specs.Heading.{headerOf}
-use Rattle.sheet.specs.RulesA.{Clause, Keeps, FirstBroken, rulesA, clausesOf, fieldClauses, wholeClauses}
-use Rattle.sheet.specs.RulesA.Keeps.{none, more}
-use Rattle.sheet.specs.RulesA.FirstBroken.{here, later}
+use Rattle.sheet.specs.RulesA.{rulesA, wholeRules}
 use Rattle.sheet.specs.RecordA.{fields, Row, judgeRow, firstFault, faultOf, recordA}
 use Rattle.sheet.specs.declared.Checked.the-variants.{Sheet, Refused}
-use Rattle.sheet.proofs.FieldRules.{nonzero, firstOf, suits, first-append, Says, rule-says}
+use Rattle.sheet.proofs.RowRules.{clausesOf, fieldClauses, suits, rule-says}
 use Rattle.sheet.proofs.HeaderA.{verdict-length}
-
--- ---- any list of rules
-abbrev pub named : Clause → Bool
-named c = nonzero (c .kind)
-
-pub kept-or-broken : (block : List ℕ) (cs : List Clause) → Keeps block cs ⊎ ((c : Clause) × FirstBroken block c cs)
-kept-or-broken block [] = inl none
-kept-or-broken block (c ∷ cs) =
-    by-test (c .kept block) (λ e. go e (kept-or-broken block cs)) (λ e. inr (c, here (λ k. clash (sym k ∙ e))))
-  where
-    go : c .kept block ≡ true → Keeps block cs ⊎ ((d : Clause) × FirstBroken block d cs)
-        → Keeps block (c ∷ cs) ⊎ ((d : Clause) × FirstBroken block d (c ∷ cs))
-    go e (inl k) = inl (more e k)
-    go e (inr b) = inr (b .0, later e (b .1))
-
-pub one-first : {block : List ℕ} {c d : Clause} {cs : List Clause} → FirstBroken block c cs → FirstBroken block d cs → c ≡ d
-one-first (here n) (here m) = refl
-one-first (here n) (later k b) = absurd (n k)
-one-first (later k b) (here n) = absurd (n k)
-one-first (later k a) (later l b) = one-first a b
-
-keeps-first : {block : List ℕ} {cs : List Clause} → Keeps block cs → (f : Fault) → firstOf block cs f ≡ f
-keeps-first none f = refl
-keeps-first (more k ks) f = rw k (keeps-first ks f)
-
-broken-first : {block : List ℕ} {c : Clause} {cs : List Clause} → FirstBroken block c cs → (f : Fault)
-    → firstOf block cs f ≡ fault (c .kind) (c .byte)
-broken-first {block} {c} (here n) f = by-test (c .kept block) (λ e. absurd (n e)) (λ e. rw e)
-broken-first (later k b) f = rw k (broken-first b f)
-
-broken-named : {block : List ℕ} {c : Clause} {cs : List Clause} → FirstBroken block c cs → all named cs ≡ true → c .kind ≡ 0 → ⊥
-broken-named {block} {c} (here {cs} n) t = eqb-false (c .kind) 0 (not-true _ (and-first (named c) (all named cs) t))
-broken-named (later {d} {cs} k b) t = broken-named b (and-second (named d) (all named cs) t)
 
 -- ---- the rules of record A
 pub rules-count : length rulesA ≡ 86
-unfolding rulesA fields
+unfolding rulesA
 rules-count = refl
 
 pub rules-named : all named rulesA ≡ true
-unfolding rulesA fields
+unfolding rulesA
 rules-named = refl
+
+-- the rules written out are those of the table that the verdict goes by: same bytes, widths, limits and order
+pub rules-of-table : rulesA ≡ fieldClauses fields ++ wholeRules
+unfolding rulesA fields
+rules-of-table = refl
 
 -- a row stands inside the block, and its width and kind suit its rule
 abbrev sound : Row → Bool
@@ -86,7 +59,7 @@ module _ (block : List ℕ) (l : length block ≡ 1024) where
 
   -- f stands for what the rules after the rows say
   rows-say : (rs : List Row) → all sound rs ≡ true → (f : Fault)
-      → firstOf block (fieldClauses rs) f ≡ cond (eqb (firstFault block rs .kind) 0) f (firstFault block rs)
+      → brokenOr block (fieldClauses rs) f ≡ cond (eqb (firstFault block rs .kind) 0) f (firstFault block rs)
   rows-say [] t f = refl
   rows-say (r ∷ rs) t f =
       let i = rows-say rs (and-second (sound r) (all sound rs) t) f in
@@ -94,19 +67,18 @@ module _ (block : List ℕ) (l : length block ≡ 1024) where
       ∙ row-says r (and-first (sound r) (all sound rs) t) _
       ∙ by-test (eqb (judgeRow block r .kind) 0) (λ e. rw e i) (λ e. simp e)
 
-  fault-is : faultOf block ≡ firstOf block rulesA (fault 0 0)
-  unfolding rulesA
+  fault-is : faultOf block ≡ brokenOr block rulesA (fault 0 0)
   fault-is =
       let w = wholeFault (headerOf block) in
-      rw (eq-eqb (length block) 1024 l)
-      (sym (first-append block (fieldClauses fields) wholeClauses (fault 0 0) ∙ rows-say fields rows-sound w))
+      rw (eq-eqb (length block) 1024 l, rules-of-table)
+      (sym (first-append block (fieldClauses fields) wholeRules (fault 0 0) ∙ rows-say fields rows-sound w))
 
-  verdict-is : (f : Fault) → firstOf block rulesA (fault 0 0) ≡ f
+  verdict-is : (f : Fault) → brokenOr block rulesA (fault 0 0) ≡ f
       → recordA block ≡ cond (eqb (f .kind) 0) (Sheet (headerOf block)) (Refused (f .kind) (f .byte))
   unfolding recordA
   verdict-is f e = rw (fault-is ∙ e)
 
-  verdict-kept : Keeps block rulesA → recordA block ≡ Sheet (headerOf block)
+  verdict-kept : KeepsAll block rulesA → recordA block ≡ Sheet (headerOf block)
   verdict-kept k = verdict-is (fault 0 0) (keeps-first k (fault 0 0))
 
   verdict-broken : {c : Clause} → FirstBroken block c rulesA → recordA block ≡ Refused (c .kind) (c .byte)
@@ -128,24 +100,24 @@ module _ (block : List ℕ) where
       → (recordA block ≡ Refused k y) ↔ ((c : Clause) × FirstBroken block c rulesA × (c .kind ≡ k) × (c .byte ≡ y))
   refused-first k y l = (λ e. go e (kept-or-broken block rulesA), λ b. verdict-broken block l (b .1) ∙ rw (b .2, b .3))
     where
-      go : recordA block ≡ Refused k y → Keeps block rulesA ⊎ ((c : Clause) × FirstBroken block c rulesA)
+      go : recordA block ≡ Refused k y → KeepsAll block rulesA ⊎ ((c : Clause) × FirstBroken block c rulesA)
           → (c : Clause) × FirstBroken block c rulesA × (c .kind ≡ k) × (c .byte ≡ y)
       go e (inl a) = not-both (sym (verdict-kept block l a) ∙ e)
       go e (inr b) =
           let d = verdict-broken block l (b .1) in
           (b .0, b .1, cc, cc)
 
-  sheet-keeps : {h : Header} → recordA block ≡ Sheet h → (length block ≡ 1024) × Keeps block rulesA
+  sheet-keeps : {h : Header} → recordA block ≡ Sheet h → (length block ≡ 1024) × KeepsAll block rulesA
   sheet-keeps e =
       by-test (eqb (length block) 1024) (λ t. go (eqb-true (length block) 1024 t) (kept-or-broken block rulesA))
       (λ t. not-both (sym e ∙ refused-length (eqb-false (length block) 1024 t)))
     where
-      go : length block ≡ 1024 → Keeps block rulesA ⊎ ((c : Clause) × FirstBroken block c rulesA)
-          → (length block ≡ 1024) × Keeps block rulesA
+      go : length block ≡ 1024 → KeepsAll block rulesA ⊎ ((c : Clause) × FirstBroken block c rulesA)
+          → (length block ≡ 1024) × KeepsAll block rulesA
       go l (inl k) = (l, k)
       go l (inr b) = not-both (sym e ∙ verdict-broken block l (b .1))
 
-  pub sheet-exactly : ((h : Header) × (recordA block ≡ Sheet h)) ↔ ((length block ≡ 1024) × Keeps block rulesA)
+  pub sheet-exactly : ((h : Header) × (recordA block ≡ Sheet h)) ↔ ((length block ≡ 1024) × KeepsAll block rulesA)
   sheet-exactly = (λ s. sheet-keeps (s .1), λ k. (headerOf block, verdict-kept block (k .0) (k .1)))
 
   pub sheet-header : {h : Header} → recordA block ≡ Sheet h → h ≡ headerOf block

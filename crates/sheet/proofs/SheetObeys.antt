@@ -37,8 +37,8 @@ use Rattle.heading.specs.Heading.{
 }
 use Rattle.heading.proofs.LimitKinds.{limits-kind}
 use Rattle.sheet.specs.RecordA.{fields, firstFault, recordA}
-use Rattle.sheet.specs.RulesA.{kindOf}
 use Rattle.sheet.specs.declared.Checked.the-variants.{Sheet}
+use Rattle.sheet.proofs.RowRules.{kindOf}
 use Rattle.sheet.proofs.HeaderA.{field-fine}
 use Rattle.sheet.proofs.RulesA.{sheet-header, sheet-fine, sheet-whole}
 

@@ -1,7 +1,7 @@
 -- Document 01, "Record A (block 0)": the table of its fields, what breaks one, and the verdict on a block.
 use mathlib.Core.Bool.{cond}
-use mathlib.Core.List.{List, [], _∷_, _++_}
-use Prim.Native.Nat.{ℕ, zero, suc, _+_}
+use mathlib.Core.List.{List, [], _∷_}
+use Prim.Native.Nat.{ℕ}
 use lib.Dec.{eqb}
 use lib.IntN.{pos}
 use lib.ListN.{length}
@@ -51,11 +51,6 @@ pub record Row : Type 0 where
 abbrev pub row : ℕ → ℕ → Rule → Row
 row first width rule = record { first = first; width = width; rule = rule }
 
--- rows of one width and rule, one behind the other
-abbrev pub rows : ℕ → ℕ → ℕ → Rule → List Row
-rows zero first width rule = []
-rows (suc n) first width rule = row first width rule ∷ rows n (first + width) width rule
-
 -- the paper's table, in its order
 unfoldable pub fields : List Row
 fields =
@@ -64,12 +59,35 @@ fields =
     ∷ row 151 6 (whole pattern)
     ∷ row 157 6 (whole system)
     ∷ row 163 6 (whole zone)
-    ∷ (rows 15 169 24 form
-    ++ (row 529 6 (whole ground)
+    ∷ row 169 24 form
+    ∷ row 193 24 form
+    ∷ row 217 24 form
+    ∷ row 241 24 form
+    ∷ row 265 24 form
+    ∷ row 289 24 form
+    ∷ row 313 24 form
+    ∷ row 337 24 form
+    ∷ row 361 24 form
+    ∷ row 385 24 form
+    ∷ row 409 24 form
+    ∷ row 433 24 form
+    ∷ row 457 24 form
+    ∷ row 481 24 form
+    ∷ row 505 24 form
+    ∷ row 529 6 (whole ground)
     ∷ row 535 6 (whole vertical)
     ∷ row 541 6 (whole sides)
-    ∷ (rows 10 547 24 free
-    ++ (row 787 24 (stepped angle)
+    ∷ row 547 24 free
+    ∷ row 571 24 free
+    ∷ row 595 24 free
+    ∷ row 619 24 free
+    ∷ row 643 24 free
+    ∷ row 667 24 free
+    ∷ row 691 24 free
+    ∷ row 715 24 free
+    ∷ row 739 24 free
+    ∷ row 763 24 free
+    ∷ row 787 24 (stepped angle)
     ∷ row 811 6 (whole accuracy)
     ∷ row 817 12 (stepped spacing)
     ∷ row 829 12 (stepped spacing)
@@ -77,7 +95,7 @@ fields =
     ∷ row 853 6 (whole rank)
     ∷ row 859 6 (whole profiles)
     ∷ row 865 160 words
-    ∷ []))))
+    ∷ []
 
 -- ---- what breaks a field
 

@@ -1,87 +1,77 @@
--- Document 01, "Record A", as a list of rules that a person can count: where each stands, its kind, and when a block keeps it.
--- No function goes by this list; that the verdict on a block is its first broken rule is proved in proofs/RulesA.antt.
-use mathlib.Core.Bool.{Bool, not, true}
-use mathlib.Core.List.{List, [], _∷_, _++_}
-use Prim.Native.Nat.{ℕ}
+-- Document 01, "Record A", as a list of rules that a person can count: one line a field, in the paper's order, with the bytes
+-- and limits of the paper's table written out again. Nothing here is made from the table that the code walks (RecordA, Heading);
+-- that the verdict on a block is its first broken rule is proved in proofs/RulesA.antt.
+use mathlib.Core.Bool.{cond}
+use mathlib.Core.List.{List, [], _∷_}
+use Prim.Native.Nat.{ℕ, _*_, _^_}
 use lib.Dec.{eqb, leb}
-use mathlib.Core.Path.{_≡_}
-use Rattle.laws.specs.Texts.{every}
 use Rattle.laws.specs.Sign.{_and_}
-use Rattle.number.specs.declared.Reading.{Reading}
-use Rattle.number.specs.Integer.{integer}
-use Rattle.number.specs.Real.{real}
 use Rattle.field.specs.declared.Limits.{Limits}
-use Rattle.field.specs.Field.{inLimits, stretch, isWord, wholeAt}
+use Rattle.field.specs.Field.{limits, wholeAt}
+use Rattle.field.specs.Rules.{Clause, clause, joined, textRules, integerIn, integerBy, realForms, realRules, realIn, realBy}
 use Rattle.frame.specs.Frame.{cornersInOrder, columnsOf, rowsOf, oneTo2048}
-use Rattle.heading.specs.Heading.{limitsOf, headerOf}
-use Rattle.sheet.specs.RecordA.{Rule, Row, fields}
-use Rattle.sheet.specs.RecordA.Rule.{words, form, free, whole, stepped}
+use Rattle.heading.specs.Heading.{headerOf}
 
--- a rule: the byte and the kind of its refusal, and whether a block keeps it
-pub record Clause : Type 0 where
-  pub byte : ℕ
-  pub kind : ℕ
-  pub kept : List ℕ → Bool
+-- what goes by the system, bytes 157-162: geographic, UTM, state plane
+abbrev pub bySystem : Limits → Limits → Limits → List ℕ → Limits
+bySystem geographic utm plane b = cond (eqb (wholeAt 157 b) 0) geographic (cond (eqb (wholeAt 157 b) 1) utm plane)
 
-abbrev pub clause : ℕ → ℕ → (List ℕ → Bool) → Clause
-clause byte kind kept = record { byte = byte; kind = kind; kept = kept }
+-- what goes by the vertical unit, bytes 535-540: feet, metres
+abbrev pub byUnit : Limits → Limits → List ℕ → Limits
+byUnit feet metres b = cond (eqb (wholeAt 535 b) 1) feet metres
 
--- a reading is not refused for this kind
-abbrev pub spared : ℕ → Reading → Bool
-spared kind r = not (eqb (r .kind) kind)
-
--- an integer field has its form (6); then its own limits
-abbrev pub integerClauses : ℕ → ℕ → ℕ → (List ℕ → Limits) → List Clause
-integerClauses first width kind within =
-    clause first 6 (λ b. spared 6 (integer (stretch first width b)))
-    ∷ clause first kind (λ b. inLimits (within b) (integer (stretch first width b) .value))
-    ∷ []
-
--- a real field has its form (6), is below 1,000,000,000 (7), and no finer than a billionth or 15 digits (8)
-abbrev pub realClauses : ℕ → ℕ → List Clause
-realClauses first width =
-    clause first 6 (λ b. spared 6 (real (stretch first width b)))
-    ∷ clause first 7 (λ b. spared 7 (real (stretch first width b)))
-    ∷ clause first 8 (λ b. spared 8 (real (stretch first width b)))
-    ∷ []
-
-abbrev pub limitClause : ℕ → ℕ → ℕ → (List ℕ → Limits) → List Clause
-limitClause first width kind within = clause first kind (λ b. inLimits (within b) (real (stretch first width b) .value)) ∷ []
-
--- the kind of a name's refusal, which is one whatever its limits go by
-abbrev pub kindOf : ℕ → ℕ
-kindOf name = limitsOf name 0 0 .kind
-
-abbrev pub clausesOf : ℕ → ℕ → Rule → List Clause
-clausesOf first width words = clause first 5 (λ b. every isWord (stretch first width b)) ∷ []
-clausesOf first width form = clause first 6 (λ b. spared 6 (real (stretch first width b))) ∷ []
-clausesOf first width free = realClauses first width
-clausesOf first width (whole name) =
-    integerClauses first width (kindOf name) (λ b. limitsOf name (wholeAt 157 b) (wholeAt 535 b))
-clausesOf first width (stepped name) =
-    realClauses first width ++ limitClause first width (kindOf name) (λ b. limitsOf name (wholeAt 157 b) (wholeAt 535 b))
-
-abbrev pub fieldClauses : List Row → List Clause
-fieldClauses [] = []
-fieldClauses (r ∷ rs) = clausesOf (r .first) (r .width) (r .rule) ++ fieldClauses rs
-
-abbrev pub wholeClauses : List Clause
-wholeClauses =
+-- over the whole record: the corners in order, columns and rows 1 to 2,048, and no more profiles than columns
+abbrev pub wholeRules : List Clause
+wholeRules =
     clause 547 10 (λ b. cornersInOrder (headerOf b))
     ∷ clause 817 10 (λ b. oneTo2048 (columnsOf (headerOf b)) and oneTo2048 (rowsOf (headerOf b)))
     ∷ clause 859 10 (λ b. leb (headerOf b .profiles) (columnsOf (headerOf b)))
     ∷ []
 
--- all rules of record A, in the order in which they are reported
+-- all rules, in the order in which they are reported: first byte, width, then least, greatest, step and kind; reals in billionths
 unfoldable pub rulesA : List Clause
-rulesA = fieldClauses fields ++ wholeClauses
-
--- a block keeps every rule of a list
-pub data Keeps (block : List ℕ) : List Clause → Type 0 where
-  none : Keeps block []
-  more : {c : Clause} {cs : List Clause} → c .kept block ≡ true → Keeps block cs → Keeps block (c ∷ cs)
-
--- c is the first rule of a list that a block breaks: those before it are kept
-pub data FirstBroken (block : List ℕ) (c : Clause) : List Clause → Type 0 where
-  here : {cs : List Clause} → (c .kept block ≡ true → ⊥) → FirstBroken block c (c ∷ cs)
-  later : {d : Clause} {cs : List Clause} → d .kept block ≡ true → FirstBroken block c cs → FirstBroken block c (d ∷ cs)
+rulesA =
+    joined
+    (textRules 1 144
+    ∷ integerIn 145 6 (limits 1 3 1 9)
+    ∷ integerIn 151 6 (limits 1 1 1 9)
+    ∷ integerIn 157 6 (limits 0 2 1 9)
+    ∷ integerBy 163 6 9 (bySystem (limits 0 0 1 9) (limits 1 60 1 9) (limits 1 9999 1 9))
+    ∷ realForms 169 24
+    ∷ realForms 193 24
+    ∷ realForms 217 24
+    ∷ realForms 241 24
+    ∷ realForms 265 24
+    ∷ realForms 289 24
+    ∷ realForms 313 24
+    ∷ realForms 337 24
+    ∷ realForms 361 24
+    ∷ realForms 385 24
+    ∷ realForms 409 24
+    ∷ realForms 433 24
+    ∷ realForms 457 24
+    ∷ realForms 481 24
+    ∷ realForms 505 24
+    ∷ integerBy 529 6 9 (bySystem (limits 3 3 1 9) (limits 2 2 1 9) (limits 1 2 1 9))
+    ∷ integerIn 535 6 (limits 1 2 1 9)
+    ∷ integerIn 541 6 (limits 4 4 1 9)
+    ∷ realRules 547 24
+    ∷ realRules 571 24
+    ∷ realRules 595 24
+    ∷ realRules 619 24
+    ∷ realRules 643 24
+    ∷ realRules 667 24
+    ∷ realRules 691 24
+    ∷ realRules 715 24
+    ∷ realRules 739 24
+    ∷ realRules 763 24
+    ∷ realIn 787 24 (limits 0 0 1 9)
+    ∷ integerIn 811 6 (limits 0 1 1 9)
+    ∷ realIn 817 12 (limits (10 ^ 9) (9999 * 10 ^ 9) (10 ^ 9) 7)
+    ∷ realIn 829 12 (limits (10 ^ 9) (9999 * 10 ^ 9) (10 ^ 9) 7)
+    ∷ realBy 841 12 7 (byUnit (limits (10 ^ 8) (10 ^ 9) (10 ^ 8) 7) (limits (10 ^ 7) (10 ^ 9) (10 ^ 7) 7))
+    ∷ integerIn 853 6 (limits 1 1 1 9)
+    ∷ integerIn 859 6 (limits 1 2048 1 7)
+    ∷ textRules 865 160
+    ∷ wholeRules
+    ∷ [])
