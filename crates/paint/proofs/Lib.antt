@@ -1,4 +1,2 @@
 pub mod FieldLaws
-pub mod ZeroTable
-pub mod ZeroWalk
 pub mod Fitting

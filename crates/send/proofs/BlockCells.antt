@@ -23,7 +23,8 @@ use Rattle.written.proofs.PostsSent.{part-sends}
 use Rattle.written.proofs.BlocksSent.{sent-all, row-in}
 use Rattle.columns.proofs.Columns.{drop-take, profile-place}
 use Rattle.columns.proofs.GridJudged.{cells-most}
-use Rattle.paint.proofs.Fitting.{zeroBy, firstBy, furtherBy}
+use Rattle.title.proofs.TitleFits.{zeroBy}
+use Rattle.paint.proofs.Fitting.{firstBy, furtherBy}
 use Rattle.send.specs.SendSteps.{ProfileAsked}
 use Rattle.send.proofs.ProfileLaws.{first-sent, further-sent}
 

@@ -1,8 +1,6 @@
 // One block of a sheet that can be sent: looked up, written. Document 01, "Writing".
 use crate::scan;
 use frame::Header;
-use paint::profile_blocks;
-use paint::zero;
 ghost use mathlib.Core.Path.{_≡_};
 ghost use mathlib.Core.Bool.{true};
 ghost use Prim.Native.Nat.{_*_, _+_, _<_};
@@ -29,7 +27,7 @@ pub(crate) fn write_block_zero(template: &[u8], h: Header, grid: &[i32], block: 
     let columns = frame::columns(h);
     let cells = (columns * frame::rows(h)) as usize;
     let extremes = columns::extremes_of(&grid[0..cells]);
-    zero::write_zero(
+    title::write_zero(
         template,
         h,
         extremes.least,
@@ -84,7 +82,7 @@ fn write_opening(h: Header, grid: &[i32], column: usize, row: usize, posts: usiz
     let here = from + figures::fewer_of(posts as u64, 146) as usize;
     let x = x_of(h, column);
     let y = y_of(h, row);
-    profile_blocks::write_first(
+    paint::write_first(
         (column + 1) as u32,
         posts as u32,
         x,
@@ -117,5 +115,5 @@ pub(crate) fn write_profile_block(
     let skip = 146 + 170 * (k as usize - 1);
     let from = cell_at(h, column, row) + skip;
     let here = from + figures::fewer_of((posts - skip) as u64, 170) as usize;
-    profile_blocks::write_further(frame::z_of(h), &grid[from..here], block);
+    paint::write_further(frame::z_of(h), &grid[from..here], block);
 }

@@ -1,4 +1,4 @@
--- The extremes of all the sheet's cells go into the template: paint has the block.
+-- The extremes of all the sheet's cells go into the template: title has the block.
 use mathlib.Core.Path.{_≡_, ap₂, sym, _∙_, ap}
 use Prim.Native.Nat.{_*_, _≤_, ℕ, _-_}
 use native.Mathlib.Omega.{arith}
@@ -13,7 +13,7 @@ use Rattle.written.specs.Cells.{sendable}
 use Rattle.written.proofs.SheetSent.{sheet-length}
 use Rattle.written.proofs.PlacesSent.{least-fits, greatest-fits}
 use Rattle.columns.proofs.GridJudged.{cells-most}
-use Rattle.paint.proofs.Fitting.{zero-whole}
+use Rattle.title.proofs.TitleFits.{zero-whole}
 use Rattle.send.proofs.BlockCells.{z-range, columns-most, zero-block}
 use Rattle.send.proofs.BlockPlaces.{back-is, back-fits}
 use Rattle.send.proofs.one_block.write_block_zero.Statement.{statement}
