@@ -1,5 +1,4 @@
 // One block of a sheet that can be sent: looked up, written. Document 01, "Writing".
-use crate::scan;
 use frame::Header;
 ghost use mathlib.Core.Path.{_≡_};
 ghost use mathlib.Core.Bool.{true};
@@ -7,17 +6,9 @@ ghost use Prim.Native.Nat.{_*_, _+_, _<_};
 ghost use lib.IntN.{pos, _+ℤ_, _*ℤ_};
 ghost use Rattle.frame.specs.Frame.{columnsOf, rowsOf};
 ghost use Rattle.heading.specs.Heading.{headerObeys};
-ghost use Rattle.written.specs.Cells.{blockCount};
 ghost use Rattle.written.specs.Blocks.{blockZero, profileBlock, xSent, yOfRow};
-ghost use Rattle.send.specs.SendSteps.{SendableSheet, ProfileAsked, ZeroAsked};
+ghost use Rattle.send.specs.SendSteps.{ProfileAsked, ZeroAsked};
 ghost use Rattle.send.specs.BlockSteps.{PlaceAsked};
-
-pub(crate) fn count_of(h: Header, grid: &[i32]) -> u64
-    requires { ⌜ SendableSheet h (now grid) ⌝ }
-    ensures { λ r. ⌜ r ≡ blockCount h (now (grid .entry)) ⌝ }
-{
-    scan::count_blocks(frame::columns(h) as usize, frame::rows(h) as usize, grid)
-}
 
 // Block 0: the template, with its numbers spelled anew, the columns for n, and the extremes of the cells.
 pub(crate) fn write_block_zero(template: &[u8], h: Header, grid: &[i32], block: &mut [u8])

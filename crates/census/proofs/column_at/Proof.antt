@@ -5,8 +5,8 @@ use mathlib.Core.Path.{_≡_, _∙_, ap}
 use native.Mathlib.Omega.{arith}
 use lib.ListN.{length, take, drop}
 use Rattle.written.specs.Cells.{firstRow, profileCells}
-use Rattle.send.proofs.scan.column_at.Statement.{statement}
-use Rattle.send.proofs.scan.column_at.Tie as tie
+use Rattle.census.proofs.column_at.Statement.{statement}
+use Rattle.census.proofs.column_at.Tie as tie
 
 mul-from : tie.Need-mul-from
 mul-from c = search needs
