@@ -3,12 +3,13 @@
 use columns::post_of;
 ghost use mathlib.Core.List.{[], _∷_};
 ghost use mathlib.Core.Path.{_≡_};
-ghost use Prim.Native.Nat.{_+_, _*_, _≤_};
+ghost use Prim.Native.Nat.{_+_, _*_, _-_, _≤_};
 ghost use lib.Dec.{leb};
 ghost use lib.ListN.{length};
 ghost use Rattle.written.specs.Painted.Field.{integer, decimal};
 ghost use Rattle.paint.specs.Fields.{blankFrom, countFields, realFields, postFields, firstAfter, furtherAfter};
 ghost use Rattle.paint.specs.FieldSteps.{Paints};
+ghost use Rattle.paint.specs.Parts.{BehindAsked, cellsBehind, partBy, partAfter};
 
 const BLANK: u8 = 32;
 
@@ -127,4 +128,56 @@ pub fn write_further(z: u64, cells: &[i32], block: &mut [u8])
     }
     let end = write_posts(z, cells, 0, block);
     blank_from(end, block);
+}
+
+// Where a profile stands: its number, the place of its southern post in billionths, the z spacing in hundredths.
+pub struct Stake {
+    pub number: u32,
+    pub x: i64,
+    pub y: i64,
+    pub z: u64,
+}
+
+// The first block from all the profile's cells: their extremes, and up to 146 of them as posts.
+fn write_opening(stake: Stake, cells: &[i32], block: &mut [u8])
+    requires { ⌜ length (now cells) ≤ 2048 ⌝ }
+    ensures { λ _. ⌜ now (block .exit) ≡ partBy stake (now (cells .entry)) 0 (now (block .entry)) ⌝ }
+{
+    let extremes = columns::extremes_of(cells);
+    let here = figures::fewer_of(cells.len() as u64, 146) as usize;
+    write_first(
+        stake.number,
+        cells.len() as u32,
+        stake.x,
+        stake.y,
+        extremes.least,
+        extremes.greatest,
+        stake.z,
+        &cells[0..here],
+        block,
+    );
+}
+
+// A further one: up to 170 of the cells behind those of the blocks before it.
+fn write_behind(z: u64, cells: &[i32], k: u64, block: &mut [u8])
+    requires { ⌜ BehindAsked (now cells) k ⌝ }
+    ensures { λ _. ⌜ now (block .exit) ≡ furtherAfter z (cellsBehind (now (cells .entry)) (k - 1)) (now (block .entry)) ⌝ }
+{
+    let from = 146 + 170 * (k as usize - 1);
+    let end = from + figures::fewer_of((cells.len() - from) as u64, 170) as usize;
+    write_further(z, &cells[from..end], block);
+}
+
+// Block k of a profile, counted from 0. One that it has not leaves the lent block as it was, and so do more cells than a sheet has rows.
+pub fn write_part(stake: Stake, cells: &[i32], k: u64, block: &mut [u8])
+    ensures { λ _. ⌜ now (block .exit) ≡ partAfter stake (now (cells .entry)) k (now (block .entry)) ⌝ }
+{
+    if !figures::both(cells.len() <= 2048, k < columns::blocks_for(cells.len())) {
+        return;
+    }
+    if k == 0 {
+        write_opening(stake, cells, block);
+        return;
+    }
+    write_behind(stake.z, cells, k, block);
 }

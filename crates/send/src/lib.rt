@@ -48,7 +48,7 @@ fn write_number(template: &[u8], h: Header, grid: &[i32], number: u64, block: &m
         return Sent::Refused(14, count);
     }
     if number == 0 {
-        one_block::write_block_zero(template, h, grid, block);
+        title::write_title(template, h, grid, block);
         return Sent::Written;
     }
     write_later(h, grid, number, block);

@@ -60,7 +60,7 @@ fn write_blocks(template: &[u8], h: Header, grid: &[i32], out: &mut [u8])
     requires { ⌜ BlocksAsked (now template) h (now grid) (now out) ⌝ }
     ensures { λ _. ⌜ now (out .exit) ≡ wholeText (now (template .entry)) h (now (grid .entry)) ⌝ }
 {
-    one_block::write_block_zero(template, h, grid, &mut out[0..1024]);
+    title::write_title(template, h, grid, &mut out[0..1024]);
     write_columns(h, grid, out);
 }
 

@@ -4,11 +4,13 @@ use Prim.Native.Nat.{ℕ}
 use lib.IntN.{ℤ, pos}
 use lib.ListN.{length}
 use mathlib.Core.Bool.{cond}
-use lib.Dec.{eqb}
+use lib.Dec.{eqb, leb}
 use Rattle.laws.specs.Sign.{_and_}
 use Rattle.field.specs.Field.{stretch}
 use Rattle.frame.specs.declared.Header.{Header}
-use Rattle.written.specs.Blocks.{Piece, piecesBy}
+use Rattle.frame.specs.Frame.{cellsOf, columnsOf}
+use Rattle.ground.specs.Extremes.{leastStated, greatestStated}
+use Rattle.written.specs.Blocks.{Piece, piecesBy, sheetCells}
 use Rattle.written.specs.Blocks.Piece.{keeps, whole, real, spacing}
 use Rattle.written.specs.Painted.{Field, painted}
 use Rattle.written.specs.Painted.Field.{text, integer, decimal, step}
@@ -26,3 +28,10 @@ zeroFields template h least greatest columns = map (fieldOf template) (piecesBy 
 unfoldable pub zeroAfter : List ℕ → Header → ℤ → ℤ → ℕ → List ℕ → List ℕ
 zeroAfter template h least greatest columns block =
     cond (eqb (length template) 1024 and eqb (length block) 1024) (painted (zeroFields template h least greatest columns) block) block
+
+-- with the columns and the extremes of a sheet; where the grid has not its cells, the block stays as it was
+unfoldable pub titleAfter : List ℕ → Header → List ℤ → List ℕ → List ℕ
+titleAfter template h grid block =
+    cond (leb (cellsOf h) (length grid))
+    (zeroAfter template h (leastStated (sheetCells h grid)) (greatestStated (sheetCells h grid)) (columnsOf h) block)
+    block

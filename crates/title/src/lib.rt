@@ -4,7 +4,7 @@ use frame::Header;
 ghost use mathlib.Core.Path.{_≡_};
 ghost use Prim.Native.Nat.{_<_};
 ghost use lib.ListN.{length};
-ghost use Rattle.title.specs.Title.{zeroAfter};
+ghost use Rattle.title.specs.Title.{zeroAfter, titleAfter};
 ghost use Rattle.title.specs.ZeroSteps.{stretchAt, textBy, pieceBy, piecesTo, capped, numbersBy};
 
 // The bytes before each stretch.
@@ -241,4 +241,24 @@ pub fn write_zero(
     }
     let values = numbers(h, least, greatest, columns);
     write_pieces(template, values, block);
+}
+
+// Block 0 of a sheet: the extremes are those of its cells, n its columns. A grid that has not the cells leaves the block as it was.
+pub fn write_title(template: &[u8], h: Header, grid: &[i32], block: &mut [u8])
+    ensures { λ _. ⌜ now (block .exit) ≡ titleAfter (now (template .entry)) h (now (grid .entry)) (now (block .entry)) ⌝ }
+{
+    if !frame::has_room(h, grid.len() as u64) {
+        return;
+    }
+    let columns = frame::columns(h);
+    let cells = (columns * frame::rows(h)) as usize;
+    let extremes = columns::extremes_of(&grid[0..cells]);
+    write_zero(
+        template,
+        h,
+        extremes.least,
+        extremes.greatest,
+        columns,
+        block,
+    );
 }
