@@ -3,73 +3,22 @@ use mathlib.Core.List.{List, [], _∷_, _++_, append-assoc}
 use mathlib.Core.Path.{_≡_, refl, subst, sym, _∙_, ap, ap₂}
 use Prim.Native.Nat.{ℕ, _≤_, _+_, _*_, _<_, zero, suc, _-_}
 use lib.ListN.{length, take, drop, length-append, length-drop, take-append-drop, getD, replicate, set}
-use lib.Seq.{length-take-le, take-append-add, drop-append-add, take-suc, take-all}
+use lib.Seq.{length-take-le, take-suc, take-all}
 use native.Mathlib.Omega.{arith}
 use mathlib.Core.Bool.{Bool, cond, true, false}
 use lib.IntN.{ℤ}
 use native.Mathlib.Nat.{mul-suc}
 use native.Mathlib.Numerals.{add-one}
 use lib.Dec.{leb}
-use Rattle.laws.proofs.Tests.{by-test}
 use Rattle.laws.proofs.Lists.{map-append}
 use Rattle.numerals.specs.Pieces.{Puts}
 use Rattle.numerals.proofs.Pieces.{put-one, joined, put-none}
-use Rattle.spell.specs.Spell.{integerFits, realFits}
-use Rattle.spell.proofs.Fits.{integer-length, real-length}
-use Rattle.paint.specs.Fields.{Field, wide, over, painted, widths, postFields, postField, blankFrom, filled}
-use Rattle.paint.specs.Fields.Field.{text, integer, decimal, step}
+use Rattle.written.specs.Painted.{Field, wide, over, painted, widths}
+use Rattle.written.proofs.PaintedFits.{painted-length, widths-append, take-seam, drop-seam, painted-append}
+use Rattle.paint.specs.Fields.{postFields, postField, blankFrom, filled}
 use Rattle.paint.specs.FieldSteps.{Paints}
 
--- ---- a field keeps its width
-
-over-length : (f : Field) (old : List ℕ) → length old ≡ wide f → length (over f old) ≡ wide f
-over-length (text t) old e = refl
-over-length (integer z) old e = by-test (integerFits 6 z) (λ t. rw t (integer-length 6 z t)) (λ t. rw t e)
-over-length (decimal z) old e = by-test (realFits 15 24 z) (λ t. rw t (real-length 15 24 z 68 t)) (λ t. rw t e)
-over-length (step z) old e = by-test (realFits 6 12 z) (λ t. rw t (real-length 6 12 z 69 t)) (λ t. rw t e)
-
-front-length : (f : Field) (old : List ℕ) → wide f ≤ length old → length (over f (take (wide f) old)) ≡ wide f
-front-length f old h = over-length f (take (wide f) old) (length-take-le (wide f) old h)
-
-pub painted-length : (fs : List Field) (old : List ℕ) → widths fs ≤ length old → length (painted fs old) ≡ length old
-unfolding painted
-painted-length [] old h = refl
-painted-length (f ∷ fs) old h =
-    let rest = drop (wide f) old in
-    let left = length-drop (wide f) old in
-    omega (
-      arith,
-      length-append (over f (take (wide f) old)) (painted fs rest),
-      front-length f old (omega arith),
-      painted-length fs rest (omega (arith, left)),
-      left,
-    )
-
-pub widths-append : (ps qs : List Field) → widths (ps ++ qs) ≡ widths ps + widths qs
-widths-append [] qs = omega arith
-widths-append (p ∷ ps) qs = omega (arith, widths-append ps qs)
-
 -- ---- fields behind fields
-
-module _ (front rest : List ℕ) (k n : ℕ) (e : length front ≡ k) where
-  take-seam : take (k + n) (front ++ rest) ≡ front ++ take n rest
-  take-seam = subst (λ (j : ℕ). take (j + n) (front ++ rest) ≡ front ++ take n rest) e (take-append-add front rest n)
-
-  drop-seam : drop (k + n) (front ++ rest) ≡ drop n rest
-  drop-seam = subst (λ (j : ℕ). drop (j + n) (front ++ rest) ≡ drop n rest) e (drop-append-add front rest n)
-
-pub painted-append : (ps qs : List Field) (old : List ℕ) → widths ps ≤ length old
-    → painted (ps ++ qs) old ≡ take (widths ps) (painted ps old) ++ painted qs (drop (widths ps) (painted ps old))
-unfolding painted
-painted-append [] qs old h = refl
-painted-append (p ∷ ps) qs old h =
-    let front = over p (take (wide p) old) in
-    let rest = painted ps (drop (wide p) old) in
-    let n = widths ps in
-    let long = front-length p old (omega arith) in
-    ap (λ (l : List ℕ). front ++ l) (painted-append ps qs (drop (wide p) old) (omega (arith, length-drop (wide p) old)))
-    ∙ sym (append-assoc front (take n rest) (painted qs (drop n rest)))
-    ∙ sym (ap₂ (λ (a b : List ℕ). a ++ painted qs b) (take-seam front rest (wide p) n long) (drop-seam front rest (wide p) n long))
 
 module _ {before after : List ℕ} {at end : ℕ} {fs : List Field} (p : Paints before at fs after end) where
   room-left : widths fs ≤ length (drop at before)

@@ -1,73 +1,24 @@
 -- Where every number fits its field, a painted block is the text of its fields: nothing is left of what it held.
-use mathlib.Core.Bool.{Bool, true}
-use mathlib.Core.List.{List, map, [], _∷_, _++_, append-assoc, append-nil}
-use Prim.Native.Nat.{ℕ, _+_, _-_, _≤_}
-use mathlib.Core.Path.{_≡_, refl, _∙_, ap₂, sym, ap}
-use lib.ListN.{length, length-append, drop, replicate, length-drop, drop-of-length-le}
-use lib.Seq.{drop-drop, take-at}
+use mathlib.Core.Bool.{true}
+use mathlib.Core.List.{List, [], _∷_, _++_, append-assoc}
+use Prim.Native.Nat.{ℕ, _-_, _≤_}
+use mathlib.Core.Path.{_≡_, refl, _∙_, ap₂, ap}
+use lib.ListN.{length, length-append, drop, replicate, length-drop}
+use lib.Seq.{take-at}
 use native.Mathlib.Omega.{arith}
-use borrow.Author.Tests.{le-leb, eq-eqb}
+use borrow.Author.Tests.{le-leb}
 use lib.IntN.{ℤ, pos}
-use Rattle.laws.specs.Lists.{joined}
 use Rattle.laws.proofs.Tables.{all}
-use Rattle.laws.proofs.Tests.{and-first, and-second, and-both}
-use Rattle.frame.specs.declared.Header.{Header}
-use Rattle.heading.specs.Heading.{headerObeys}
-use Rattle.spell.specs.Spell.{integerFits, realFits, integerText, realText}
-use Rattle.spell.proofs.Fits.{integer-length, real-length}
-use Rattle.written.specs.Blocks.{filledUp, postsText, pieceText, piecesBy, Piece}
+use Rattle.laws.proofs.Tests.{and-both}
+use Rattle.spell.specs.Spell.{realFits, integerText, realText}
+use Rattle.written.specs.Blocks.{filledUp, postsText}
 use Rattle.written.specs.Cells.{postOf}
-use Rattle.written.specs.Blocks.Piece.{keeps, whole, real, spacing}
+use Rattle.written.specs.Painted.{Field, widths}
 use Rattle.written.proofs.PostsSent.{AllSent, first-sent, post-fits}
-use Rattle.written.proofs.PiecesSent.{small-fits, zero-fits, pieceFits, all-fit}
-use Rattle.paint.specs.Fields.{Field, over, wide, widths, painted, blankFrom, filled, postFields, countFields, realFields, firstAfter, furtherAfter, fieldOf, zeroFields, zeroAfter}
-use Rattle.paint.specs.Fields.Field.{text, integer, decimal, step}
+use Rattle.written.proofs.PiecesSent.{small-fits, zero-fits}
+use Rattle.written.proofs.PaintedFits.{fieldFits, textOf, texts-length, painted-fits}
+use Rattle.paint.specs.Fields.{blankFrom, filled, postFields, countFields, realFields, firstAfter, furtherAfter}
 use Rattle.paint.proofs.FieldLaws.{posts-wide}
-use Rattle.paint.proofs.ZeroWalk.{widths-all}
-
--- ---- fields that fit
-
-abbrev fieldFits : Field → Bool
-fieldFits (text t) = true
-fieldFits (integer z) = integerFits 6 z
-fieldFits (decimal z) = realFits 15 24 z
-fieldFits (step z) = realFits 6 12 z
-
-abbrev fieldText : Field → List ℕ
-fieldText (text t) = t
-fieldText (integer z) = integerText 6 z
-fieldText (decimal z) = realText 15 68 24 z
-fieldText (step z) = realText 6 69 12 z
-
-abbrev textOf : List Field → List ℕ
-textOf fs = joined (map fieldText fs)
-
-over-fits : (f : Field) (old : List ℕ) → fieldFits f ≡ true → over f old ≡ fieldText f
-over-fits (text t) old e = refl
-over-fits (integer z) old e = rw e
-over-fits (decimal z) old e = rw e
-over-fits (step z) old e = rw e
-
-text-length : (f : Field) → fieldFits f ≡ true → length (fieldText f) ≡ wide f
-text-length (text t) e = refl
-text-length (integer z) e = integer-length 6 z e
-text-length (decimal z) e = real-length 15 24 z 68 e
-text-length (step z) e = real-length 6 12 z 69 e
-
-texts-length : (fs : List Field) → all fieldFits fs ≡ true → length (textOf fs) ≡ widths fs
-texts-length [] t = refl
-texts-length (f ∷ fs) t =
-    length-append (fieldText f) (textOf fs)
-    ∙ ap₂ _+_ (text-length f (and-first (fieldFits f) (all fieldFits fs) t)) (texts-length fs (and-second (fieldFits f) (all fieldFits fs) t))
-
-painted-fits : (fs : List Field) (old : List ℕ) → all fieldFits fs ≡ true → painted fs old ≡ textOf fs ++ drop (widths fs) old
-unfolding painted
-painted-fits [] old t = refl
-painted-fits (f ∷ fs) old t =
-    ap₂ (λ (a b : List ℕ). a ++ b) (over-fits f _ (and-first (fieldFits f) (all fieldFits fs) t))
-    (painted-fits fs (drop (wide f) old) (and-second (fieldFits f) (all fieldFits fs) t))
-    ∙ sym (append-assoc (fieldText f) (textOf fs) (drop (widths fs) (drop (wide f) old)))
-    ∙ ap (λ (l : List ℕ). (fieldText f ++ textOf fs) ++ l) (drop-drop (widths fs) (wide f) old)
 
 filled-fits : (fs : List Field) (block : List ℕ) → all fieldFits fs ≡ true → widths fs ≤ 1024 → length block ≡ 1024
     → filled fs block ≡ filledUp (textOf fs)
@@ -80,8 +31,6 @@ filled-fits fs block t room long =
     rw (le-leb n (length block) (omega (arith, room, long)))
     (ap (blankFrom n) (painted-fits fs block t)
     ∙ ap₂ (λ (l : List ℕ) (k : ℕ). l ++ replicate k 32) (take-at (textOf fs) rest n many) left)
-
--- ---- the blocks of a profile
 
 posts-fit : (z : ℕ) (cells : List ℤ) → AllSent z cells → all fieldFits (postFields z cells) ≡ true
 posts-fit z [] h = refl
@@ -145,45 +94,3 @@ further-whole z cells block e sent most long =
     e
     ∙ filled-fits (postFields z cells) block (posts-fit z cells sent) (omega (arith, posts-wide z cells, most)) long
     ∙ ap filledUp (posts-text z cells)
-
--- ---- block 0
-
--- with the extremes and the columns as they are handed over
-unfoldable pub zeroBy : List ℕ → Header → ℤ → ℤ → ℕ → List ℕ
-zeroBy template h least greatest columns = joined (map (pieceText template) (piecesBy h least greatest columns))
-
-module _ (template : List ℕ) where
-  piece-text : (p : Piece) → fieldText (fieldOf template p) ≡ pieceText template p
-  piece-text (keeps first width) = refl
-  piece-text (whole n) = refl
-  piece-text (real z) = refl
-  piece-text (spacing v) = refl
-
-  piece-fits : (p : Piece) → pieceFits p ≡ true → fieldFits (fieldOf template p) ≡ true
-  piece-fits (keeps first width) t = refl
-  piece-fits (whole n) t = t
-  piece-fits (real z) t = t
-  piece-fits (spacing v) t = t
-
-  pieces-text : (ps : List Piece) → textOf (map (fieldOf template) ps) ≡ joined (map (pieceText template) ps)
-  pieces-text [] = refl
-  pieces-text (p ∷ ps) = ap₂ (λ (a b : List ℕ). a ++ b) (piece-text p) (pieces-text ps)
-
-  pieces-fit : (ps : List Piece) → all pieceFits ps ≡ true → all fieldFits (map (fieldOf template) ps) ≡ true
-  pieces-fit [] t = refl
-  pieces-fit (p ∷ ps) t =
-      and-both (piece-fits p (and-first (pieceFits p) (all pieceFits ps) t)) (pieces-fit ps (and-second (pieceFits p) (all pieceFits ps) t))
-
-pub zero-whole : (template : List ℕ) (h : Header) (least greatest : ℤ) (columns : ℕ) (block : List ℕ) {written : List ℕ}
-    → written ≡ zeroAfter template h least greatest columns block → length template ≡ 1024 → length block ≡ 1024 → headerObeys h ≡ true
-    → realFits 15 24 least ≡ true → realFits 15 24 greatest ≡ true → columns ≤ 2048 → written ≡ zeroBy template h least greatest columns
-unfolding zeroAfter zeroBy
-zero-whole template h least greatest columns block e long same obeys low high few =
-    let fields = zeroFields template h least greatest columns in
-    let pieces = piecesBy h least greatest columns in
-    let none = drop-of-length-le block {i = widths fields} (omega (arith, widths-all template long h least greatest columns, same)) in
-    (rw (eq-eqb (length template) 1024 long, eq-eqb (length block) 1024 same) at e)
-    ∙ painted-fits fields block (pieces-fit template pieces (all-fit h least greatest columns obeys low high few))
-    ∙ ap (λ (l : List ℕ). textOf fields ++ l) none
-    ∙ append-nil (textOf fields)
-    ∙ pieces-text template pieces

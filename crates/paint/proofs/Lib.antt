@@ -1,4 +1,3 @@
 pub mod FieldLaws
-pub mod ZeroTable
-pub mod ZeroWalk
 pub mod Fitting
+pub mod PartLaws

@@ -3,7 +3,7 @@ use mathlib.Core.List.{List, _++_}
 use mathlib.Core.Path.{_≡_}
 use Prim.Native.Nat.{ℕ, _+_, _≤_}
 use lib.ListN.{length, take, drop}
-use Rattle.paint.specs.Fields.{Field, widths, painted}
+use Rattle.written.specs.Painted.{Field, widths, painted}
 
 pub record Paints (before : List ℕ) (at : ℕ) (fs : List Field) (after : List ℕ) (end : ℕ) : Type 0 where
   pub place : end ≡ at + widths fs

@@ -1,3 +1,3 @@
 pub mod Fields
 pub mod FieldSteps
-pub mod ZeroSteps
+pub mod Parts

@@ -55,7 +55,8 @@ use Rattle.columns.specs.declared.Column.{Column}
 use Rattle.columns.specs.declared.Extremes.{Extremes}
 use Rattle.columns.specs.Judging.{judgedBy}
 use Rattle.columns.specs.declared.judging.Judged.{Judged}
-use Rattle.paint.specs.Fields.{firstAfter, furtherAfter, zeroAfter}
+use Rattle.title.specs.Title.{zeroAfter}
+use Rattle.paint.specs.Fields.{firstAfter, furtherAfter}
 use Rattle.send.specs.SendSteps.{sentBy, sheetSentFault, sheetAfter}
 use Rattle.send.specs.declared.Sent.{Sent}
 

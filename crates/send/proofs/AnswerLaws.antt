@@ -1,6 +1,6 @@
 -- From a judged sheet to what the writers ask, and from what they give to the public answer.
 use mathlib.Core.List.{List}
-use mathlib.Core.Path.{_≡_, ap, sym, _∙_, subst}
+use mathlib.Core.Path.{_≡_, refl, ap, sym, _∙_, subst}
 use Prim.Native.Nat.{ℕ, _≤_, _<_, _-_}
 use lib.IntN.{ℤ}
 use mathlib.Core.Bool.{false, true}
@@ -14,20 +14,21 @@ use Rattle.frame.specs.Frame.{columnsOf, rowsOf}
 use Rattle.heading.specs.Heading.{headerOf}
 use Rattle.sheet.proofs.SheetObeys.{sheet-obeys}
 use Rattle.written.specs.Sending.{sheetFault, Fault, fault, blockFault, blockAfter, countOf}
-use Rattle.written.specs.Cells.{blockCount, startAt, startSent}
+use Rattle.written.specs.Cells.{blockCount, columnWith}
 use Rattle.written.specs.Blocks.{profileBlock, blockZero, blockSent}
 use Rattle.written.proofs.SheetPasses.{fine-passes}
+use Rattle.written.proofs.SheetSent.{start-next, with-start, with-below, with-end}
 use Rattle.columns.specs.declared.judging.Judged.{Judged}
 use Rattle.columns.specs.declared.judging.Judged.the-variants.{Good, Bad}
 use Rattle.columns.specs.Judging.{judgedBy}
+use Rattle.census.specs.Census.{counted, foundBy, foundAt}
+use Rattle.census.specs.declared.Found.{Found}
+use Rattle.census.proofs.CensusLaws.{sheet-counted, sheet-found}
 use Rattle.send.specs.WholeSteps.{FitAsked}
 use Rattle.send.specs.declared.Sent.{Sent}
 use Rattle.send.specs.declared.Sent.the-variants.{Refused, Written}
-use Rattle.send.specs.SendSteps.{sentBy, ZeroAsked, ProfileAsked}
+use Rattle.send.specs.SendSteps.{SendableSheet, sentBy, ZeroAsked, ProfileAsked}
 use Rattle.send.specs.AnswerSteps.{countFault, numbered, LaterAsked, laterBlock}
-use Rattle.send.specs.ScanSteps.{Sizes, Finds}
-use Rattle.send.specs.declared.scan.Found.{Found}
-use Rattle.send.proofs.ScanLaws.{sizes}
 
 -- ---- a sheet that nothing stands against can be sent
 
@@ -38,6 +39,9 @@ fine-fits template grid z =
       sheet = record { obeys = sheet-obeys template (headerOf template) (p .sheet); room = p .room; all = p .all };
       template-long = p .long;
     }
+
+pub counts : {h : Header} {grid : List ℤ} → SendableSheet h grid → counted h grid ≡ blockCount h grid
+counts {h} {grid} s = sheet-counted h grid (s .obeys) (s .room)
 
 -- ---- what the judge's answer says
 
@@ -142,37 +146,33 @@ module _ (template : List ℕ) (grid : List ℤ) where
 
 -- ---- a later block is one of a profile
 
--- the code's numbers for the header's
-pub asked-find : {h : Header} {grid : List ℤ} {number : ℕ} {block : List ℕ} (columns rows : ℕ)
-    → columns ≡ columnsOf h → rows ≡ rowsOf h → LaterAsked h grid number block
-    → Sizes columns rows grid × ((1 ≤ number) × (number < startAt rows grid columns))
-asked-find {h} {grid} {number} {block} columns rows e f a =
-    rw (e, f) (sizes (a .sheet), (a .later, a .below))
+module _ {h : Header} {grid : List ℤ} {number : ℕ} {block : List ℕ} (a : LaterAsked h grid number block) (r : Found)
+    (e : r ≡ foundBy h grid number) where
+  abbrev here : ℕ
+  here = columnWith h grid (columnsOf h) number
 
-module _ (h : Header) {grid : List ℤ} {number : ℕ} {columns rows : ℕ} {r : Found}
-    (e : columns ≡ columnsOf h) (f : rows ≡ rowsOf h) (found : Finds columns rows grid number r) where
-  finds-by : Finds (columnsOf h) (rowsOf h) grid number r
-  finds-by = rw (← e, ← f) found
+  found-is : r ≡ foundAt (rowsOf h) grid here
+  found-is = e ∙ sheet-found h grid (a .sheet .obeys) (a .sheet .room) number (a .later) (a .below)
 
-  pub found-asked : {block : List ℕ} → LaterAsked h grid number block
-      → ProfileAsked h grid (r .column) (r .row) (r .posts) (number - r .start) block
-  found-asked {block} a =
-      let d = finds-by in
-      record {
+  pub found-before : r .start ≤ number
+  found-before = rw found-is (with-start (rowsOf h) grid (columnsOf h) number (a .later))
+
+  pub found-asked : ProfileAsked h grid (r .column) (r .row) (r .posts) (number - r .start) block
+  found-asked =
+      let k = with-start (rowsOf h) grid (columnsOf h) number (a .later) in
+      let end = with-end (rowsOf h) grid (columnsOf h) number (a .below) in
+      subst (λ (x : Found). ProfileAsked h grid (x .column) (x .row) (x .posts) (number - x .start) block) (sym found-is)
+      (record {
         sheet = a .sheet;
-        inside = d .column-within;
-        row-is = d .row-is;
-        posts-are = d .posts-are;
-        within = omega (arith, d .not-before, d .not-behind);
+        inside = with-below (rowsOf h) grid (columnsOf h) number (a .later) (a .below);
+        row-is = refl;
+        posts-are = refl;
+        within = omega (arith, k, end, start-next (rowsOf h) grid here);
         long = a .long;
-      }
+      })
 
   pub found-block : (after : List ℕ) → after ≡ profileBlock h grid (r .column) (number - r .start) → after ≡ laterBlock h grid number
-  found-block after a =
-      let d = finds-by in
-      a
-      ∙ ap (λ (n : ℕ). profileBlock h grid (r .column) (number - n)) (d .start-is)
-      ∙ ap (λ (x : ℕ). profileBlock h grid x (number - startSent h grid x)) (d .column-is)
+  found-block after b = b ∙ ap (λ (x : Found). profileBlock h grid (x .column) (number - x .start)) found-is
 
 -- ---- a numbered block
 

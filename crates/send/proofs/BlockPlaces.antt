@@ -1,6 +1,6 @@
 -- A profile's place lies between the corners: so the machine's sum and product hold it.
 use mathlib.Core.Bool.{true}
-use mathlib.Core.Path.{_≡_, _∙_, ap}
+use mathlib.Core.Path.{_≡_}
 use Prim.Native.Nat.{ℕ, _<_, _^_}
 use native.Mathlib.Omega.{arith}
 use lib.IntN.{ℤ, pos, _+ℤ_, _*ℤ_}
@@ -15,7 +15,6 @@ use Rattle.frame.specs.Frame.{columnsOf, rowsOf, west, east, south, north}
 use Rattle.frame.specs.declared.Header.{Header}
 use Rattle.heading.specs.Heading.{headerObeys}
 use Rattle.heading.proofs.HeadingFacts.{Heading, header-facts}
-use Rattle.spell.specs.Spell.{realFits}
 use Rattle.spell.proofs.Fits.{real-fits}
 use Rattle.written.specs.Blocks.{xSent, yOfRow}
 use Rattle.written.proofs.PlacesSent.{x-fits, y-fits}
@@ -59,11 +58,3 @@ module _ {first : ℤ} {index step : ℕ} (a : PlaceAsked first index step) wher
 
   pub first-back : toZ w64 (ofZ w64 first) ≡ first
   first-back = toZ-ofZ (size-fits first (omega (arith, a .first-small)))
-
--- a number that a real field can hold, handed on by the machine
-pub back-is : {v : ℤ} (z : ℤ) → v ≡ z → realFits 15 24 z ≡ true → toZ w64 (ofZ w64 v) ≡ z
-back-is z e f =
-    ap (λ (u : ℤ). toZ w64 (ofZ w64 u)) e ∙ toZ-ofZ (size-fits z (omega (arith, real-fits 15 24 z f .modest)))
-
-pub back-fits : {v : ℤ} (z : ℤ) → v ≡ z → realFits 15 24 z ≡ true → realFits 15 24 (toZ w64 (ofZ w64 v)) ≡ true
-back-fits z e f = rw (back-is z e f) f

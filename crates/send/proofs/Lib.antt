@@ -1,4 +1,3 @@
-pub mod ScanLaws
 pub mod ProfileLaws
 pub mod AnswerLaws
 pub mod BlockCells

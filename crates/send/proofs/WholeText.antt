@@ -18,15 +18,15 @@ use Rattle.written.specs.Cells.{blockCount, cellsSent, startSent}
 use Rattle.written.specs.Blocks.{blockZero, profileBlock, blockSent}
 use Rattle.written.proofs.SheetSent.{start-next, first-start}
 use Rattle.written.proofs.BlocksSent.{zero-is, profile-is}
+use Rattle.census.proofs.CensusLaws.{sheet-sizes, start-most}
 use Rattle.send.specs.SendSteps.{SendableSheet}
 use Rattle.send.specs.WholeSteps.{blocksText, columnText, columnsText, wholeText}
-use Rattle.send.proofs.ScanLaws.{sizes, start-most}
 
 -- ---- sizes
 
 pub count-most : {h : Header} {grid : List ℤ} → SendableSheet h grid → blockCount h grid ≤ 26625
 count-most {h} {grid} s =
-    let z = sizes s in
+    let z = sheet-sizes h grid (s .obeys) (s .room) in
     omega (arith, start-most z (columnsOf h) (omega arith), z .columns-most)
 
 -- ---- pieces put

@@ -1,4 +1,3 @@
-pub mod ScanSteps
 pub mod SendSteps
 pub mod AnswerSteps
 pub mod BlockSteps

@@ -1,6 +1,5 @@
 // Sheets written from a lent grid: document 01, "Writing".
 mod one_block;
-mod scan;
 mod whole_sheet;
 
 use columns::judging;
@@ -25,7 +24,7 @@ pub fn block_count(template: &[u8], grid: &[i32]) -> u64
     let judged = judging::judge_sheet(template, grid);
     match judged {
         Judged::Bad(_kind, _number) => 0,
-        Judged::Good(h) => one_block::count_of(h, grid),
+        Judged::Good(h) => census::count_of(h, grid),
     }
 }
 
@@ -34,12 +33,7 @@ fn write_later(h: Header, grid: &[i32], number: u64, block: &mut [u8])
     requires { ⌜ LaterAsked h (now grid) number (now block) ⌝ }
     ensures { λ _. ⌜ now (block .exit) ≡ laterBlock h (now (grid .entry)) number ⌝ }
 {
-    let found = scan::find_column(
-        frame::columns(h) as usize,
-        frame::rows(h) as usize,
-        grid,
-        number,
-    );
+    let found = census::find_column(h, grid, number);
     let k = number - found.start;
     one_block::write_profile_block(h, grid, found.column, found.row, found.posts, k, block);
 }
@@ -49,12 +43,12 @@ fn write_number(template: &[u8], h: Header, grid: &[i32], number: u64, block: &m
     requires { ⌜ ZeroAsked (now template) h (now grid) (now block) ⌝ }
     ensures { λ r. ⌜ (r ≡ sentBy (countFault h (now (grid .entry)) number)) × (now (block .exit) ≡ numbered (now (template .entry)) h (now (grid .entry)) number (now (block .entry))) ⌝ }
 {
-    let count = one_block::count_of(h, grid);
+    let count = census::count_of(h, grid);
     if count <= number {
         return Sent::Refused(14, count);
     }
     if number == 0 {
-        one_block::write_block_zero(template, h, grid, block);
+        title::write_title(template, h, grid, block);
         return Sent::Written;
     }
     write_later(h, grid, number, block);

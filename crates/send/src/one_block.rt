@@ -1,43 +1,15 @@
-// One block of a sheet that can be sent: looked up, written. Document 01, "Writing".
-use crate::scan;
+// One block of a profile of a sheet that can be sent. Document 01, "Writing".
 use frame::Header;
-use paint::profile_blocks;
-use paint::zero;
+use paint::Stake;
 ghost use mathlib.Core.Path.{_≡_};
 ghost use mathlib.Core.Bool.{true};
 ghost use Prim.Native.Nat.{_*_, _+_, _<_};
 ghost use lib.IntN.{pos, _+ℤ_, _*ℤ_};
 ghost use Rattle.frame.specs.Frame.{columnsOf, rowsOf};
 ghost use Rattle.heading.specs.Heading.{headerObeys};
-ghost use Rattle.written.specs.Cells.{blockCount};
-ghost use Rattle.written.specs.Blocks.{blockZero, profileBlock, xSent, yOfRow};
-ghost use Rattle.send.specs.SendSteps.{SendableSheet, ProfileAsked, ZeroAsked};
-ghost use Rattle.send.specs.BlockSteps.{PlaceAsked};
-
-pub(crate) fn count_of(h: Header, grid: &[i32]) -> u64
-    requires { ⌜ SendableSheet h (now grid) ⌝ }
-    ensures { λ r. ⌜ r ≡ blockCount h (now (grid .entry)) ⌝ }
-{
-    scan::count_blocks(frame::columns(h) as usize, frame::rows(h) as usize, grid)
-}
-
-// Block 0: the template, with its numbers spelled anew, the columns for n, and the extremes of the cells.
-pub(crate) fn write_block_zero(template: &[u8], h: Header, grid: &[i32], block: &mut [u8])
-    requires { ⌜ ZeroAsked (now template) h (now grid) (now block) ⌝ }
-    ensures { λ _. ⌜ now (block .exit) ≡ blockZero (now (template .entry)) h (now (grid .entry)) ⌝ }
-{
-    let columns = frame::columns(h);
-    let cells = (columns * frame::rows(h)) as usize;
-    let extremes = columns::extremes_of(&grid[0..cells]);
-    zero::write_zero(
-        template,
-        h,
-        extremes.least,
-        extremes.greatest,
-        columns,
-        block,
-    );
-}
+ghost use Rattle.written.specs.Blocks.{profileBlock, xSent, yOfRow};
+ghost use Rattle.send.specs.SendSteps.{ProfileAsked};
+ghost use Rattle.send.specs.BlockSteps.{PlaceAsked, stakeOf};
 
 // A multiple of the lattice, so many behind its first, in billionths.
 fn place_at(first: i64, index: usize, step: u64) -> i64
@@ -73,31 +45,20 @@ fn cell_at(h: Header, column: usize, row: usize) -> usize
     column * frame::rows(h) as usize + row
 }
 
-// A profile's first block: head and up to 146 posts.
-fn write_opening(h: Header, grid: &[i32], column: usize, row: usize, posts: usize, block: &mut [u8])
-    requires { ⌜ ProfileAsked h (now grid) column row posts 0 (now block) ⌝ }
-    ensures { λ _. ⌜ now (block .exit) ≡ profileBlock h (now (grid .entry)) column 0 ⌝ }
+// Where a column's profile stands, from its first row on.
+fn stake_of(h: Header, column: usize, row: usize) -> Stake
+    requires { ⌜ (headerObeys h ≡ true) × ((column < columnsOf h) × (row < rowsOf h)) ⌝ }
+    ensures { λ r. ⌜ r ≡ stakeOf h column row ⌝ }
 {
-    let from = cell_at(h, column, row);
-    let end = from + posts;
-    let extremes = columns::extremes_of(&grid[from..end]);
-    let here = from + figures::fewer_of(posts as u64, 146) as usize;
-    let x = x_of(h, column);
-    let y = y_of(h, row);
-    profile_blocks::write_first(
-        (column + 1) as u32,
-        posts as u32,
-        x,
-        y,
-        extremes.least,
-        extremes.greatest,
-        frame::z_of(h),
-        &grid[from..here],
-        block,
-    );
+    Stake {
+        number: (column + 1) as u32,
+        x: x_of(h, column),
+        y: y_of(h, row),
+        z: frame::z_of(h),
+    }
 }
 
-// Block k of a column's profile, counted from 0.
+// Block k of a column's profile, counted from 0: its cells are lent as they stand in the grid.
 pub(crate) fn write_profile_block(
     h: Header,
     grid: &[i32],
@@ -110,12 +71,8 @@ pub(crate) fn write_profile_block(
     requires { ⌜ ProfileAsked h (now grid) column row posts k (now block) ⌝ }
     ensures { λ _. ⌜ now (block .exit) ≡ profileBlock h (now (grid .entry)) column k ⌝ }
 {
-    if k == 0 {
-        write_opening(h, grid, column, row, posts, block);
-        return;
-    }
-    let skip = 146 + 170 * (k as usize - 1);
-    let from = cell_at(h, column, row) + skip;
-    let here = from + figures::fewer_of((posts - skip) as u64, 170) as usize;
-    profile_blocks::write_further(frame::z_of(h), &grid[from..here], block);
+    let stake = stake_of(h, column, row);
+    let from = cell_at(h, column, row);
+    let end = from + posts;
+    paint::write_part(stake, &grid[from..end], k, block);
 }

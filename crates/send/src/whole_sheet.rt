@@ -1,7 +1,6 @@
 // A whole sheet into one lent buffer, column by column: a column is looked up once for all its blocks, where one block's call must find it anew.
 use crate::Sent;
 use crate::one_block;
-use crate::scan;
 use frame::Header;
 ghost use mathlib.Core.Path.{_≡_};
 ghost use mathlib.Core.Bool.{cond};
@@ -20,7 +19,7 @@ fn write_column(h: Header, grid: &[i32], column: usize, at: usize, out: &mut [u8
     requires { ⌜ ColumnAsked h (now grid) column at (now out) ⌝ }
     ensures { λ r. ⌜ Puts (now (out .entry)) at (columnText h (now (grid .entry)) column) (now (out .exit)) r × (r ≡ at + 1024 * blocksFor (length (cellsSent h (now (grid .entry)) column))) ⌝ }
 {
-    let found = scan::column_at(frame::rows(h) as usize, grid, column);
+    let found = census::column_of(h, grid, column);
     let blocks = columns::blocks_for(found.posts);
     let mut from = at;
     let mut k = 0;
@@ -61,7 +60,7 @@ fn write_blocks(template: &[u8], h: Header, grid: &[i32], out: &mut [u8])
     requires { ⌜ BlocksAsked (now template) h (now grid) (now out) ⌝ }
     ensures { λ _. ⌜ now (out .exit) ≡ wholeText (now (template .entry)) h (now (grid .entry)) ⌝ }
 {
-    one_block::write_block_zero(template, h, grid, &mut out[0..1024]);
+    title::write_title(template, h, grid, &mut out[0..1024]);
     write_columns(h, grid, out);
 }
 
@@ -70,7 +69,7 @@ pub(crate) fn write_fitting(template: &[u8], h: Header, grid: &[i32], out: &mut 
     requires { ⌜ FitAsked (now template) h (now grid) ⌝ }
     ensures { λ r. ⌜ (r ≡ sentBy (roomFault h (now (grid .entry)) (length (now (out .entry))))) × (now (out .exit) ≡ cond (eqb (length (now (out .entry))) (1024 * blockCount h (now (grid .entry)))) (wholeText (now (template .entry)) h (now (grid .entry))) (now (out .entry))) ⌝ }
 {
-    let count = one_block::count_of(h, grid);
+    let count = census::count_of(h, grid);
     if out.len() as u64 != 1024 * count {
         return Sent::Refused(1, 0);
     }

@@ -104,6 +104,14 @@ module _ (column : List ℤ) where
       rw (filled-row e, filled-profile e)
       (omega (arith, length-drop (voidsBefore column) (upToLast column), voids-room column e, last-length column)))
 
+  -- no more than the column has, or one
+  pub cells-most : length (profileCells column) ≤ 1 + length column
+  cells-most =
+      by-test (isNone (upToLast column)) (λ e. rw (void-profile e) (omega arith))
+      (λ e.
+      rw (filled-profile e)
+      (omega (arith, length-drop (voidsBefore column) (upToLast column), last-length column)))
+
   -- the cell at any row: the profile's from its first row on, and void south of it and past its last post
   pub cell-sent : (r : ℕ)
       → getD column r void ≡ cond (leb (firstRow column) r) (getD (profileCells column) (r - firstRow column) void) void

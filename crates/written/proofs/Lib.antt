@@ -6,3 +6,4 @@ pub mod PiecesSent
 pub mod PostsSent
 pub mod HeadSent
 pub mod BlocksSent
+pub mod PaintedFits

@@ -9,7 +9,7 @@ use lib.Arith.{digits-lt}
 use lib.IntN.{ℤ, pos, _*ℤ_}
 use lib.ListN.{length, take, drop, getD, length-drop}
 use lib.Seq.{getD-take, getD-drop, take-add, drop-drop, length-take-le}
-use borrow.Author.Tests.{eqb-true, eqb-false, leb-true, le-leb, lt-leb, ltb-true, ltb-false}
+use borrow.Author.Tests.{eqb-true, eqb-false, leb-true, leb-false, le-leb, lt-leb, ltb-true, ltb-false}
 use lib.Dec.{leb, ltb, eqb}
 use Rattle.laws.specs.Lists.{from, below, joined}
 use Rattle.laws.specs.Sign.{sameZ}
@@ -184,6 +184,16 @@ module _ (rows : ℕ) (grid : List ℤ) where
       by-test (leb (startAt rows grid (suc n)) number)
       (λ e. rw (with-here n number e) (leb-true (startAt rows grid (suc n)) number e))
       (λ e. rw (with-before n number e) (with-start n number some))
+
+  -- and ends before the next column's start
+  with-next : (n number : ℕ) → number < startAt rows grid (suc n) → number < startAt rows grid (suc (columnFor rows grid n number))
+  with-next zero number to = rw (with-none number) to
+  with-next (suc n) number to =
+      by-test (leb (startAt rows grid (suc n)) number) (λ e. rw (with-here n number e) to)
+      (λ e. rw (with-before n number e) (with-next n number (leb-false (startAt rows grid (suc n)) number e)))
+
+  pub with-end : (n number : ℕ) → number < startAt rows grid n → number < startAt rows grid (suc (columnFor rows grid n number))
+  with-end n number within = with-next n number (omega (arith, within, start-before n))
 
   -- a block behind block 0 and before the end belongs to one of the columns
   pub with-below : (n number : ℕ) → 1 ≤ number → number < startAt rows grid n → columnFor rows grid n number < n

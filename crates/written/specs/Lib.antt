@@ -1,3 +1,4 @@
 pub mod Cells
 pub mod Blocks
 pub mod Sending
+pub mod Painted

@@ -1,7 +1,7 @@
 -- How many blocks: none of a sheet that is refused.
 use borrow.Author.Needs.{needs}
 use mathlib.Core.Path.{sym, _∙_}
-use Rattle.send.proofs.AnswerLaws.{good-fits, bad-count, good-count}
+use Rattle.send.proofs.AnswerLaws.{counts, good-fits, bad-count, good-count}
 use Rattle.send.proofs.block_count.Statement.{statement}
 use Rattle.send.proofs.block_count.Tie as tie
 
@@ -15,10 +15,7 @@ enum-known-judged-2 : tie.Need-enum-known-judged-2
 enum-known-judged-2 c = search needs
 
 count-of-requires : tie.Need-count-of-requires
-count-of-requires c κs =
-    let o = c .before .before .before .before .before in
-    good-fits (o .args .template .now) (o .args .grid .now) (c .before .judged2 .given .0 .0)
-    (sym (c .before .judged2 .given .1) ∙ c .before .before .before .judge-sheet .ensures) .sheet
+count-of-requires c κs = search needs
 
 returns : tie.Need-returns
 returns c =
@@ -29,9 +26,11 @@ returns c =
 returns-2 : tie.Need-returns-2
 returns-2 c =
     let o = c .before .before .before .before .before .before in
+    let h = c .before .before .judged2 .given .0 .0 in
+    let e = sym (c .before .before .judged2 .given .1) ∙ c .before .before .before .before .judge-sheet .ensures in
     c .count-of .ensures
-    ∙ good-count (o .args .template .now) (o .args .grid .now) (c .before .before .judged2 .given .0 .0)
-    (sym (c .before .before .judged2 .given .1) ∙ c .before .before .before .before .judge-sheet .ensures)
+    ∙ counts (good-fits (o .args .template .now) (o .args .grid .now) h e .sheet)
+    ∙ good-count (o .args .template .now) (o .args .grid .now) h e
 
 pub block-count-spec : {M : Type 1} → statement M
 block-count-spec =

@@ -1,30 +1,31 @@
 -- Past the count nothing is written; block 0 and the later ones are.
 use borrow.Author.Needs.{needs}
-use mathlib.Core.Path.{subst}
+use mathlib.Core.Path.{subst, _∙_}
 use Prim.Native.Nat.{ℕ, _<_}
 use Rattle.written.specs.Cells.{blockCount}
-use Rattle.send.proofs.BlockCells.{some-of}
-use Rattle.send.proofs.AnswerLaws.{past-end, written-zero, written-later}
+use native.Mathlib.Omega.{arith}
+use Rattle.send.proofs.BlockCells.{title-block}
+use Rattle.send.proofs.AnswerLaws.{counts, past-end, written-zero, written-later}
 use Rattle.send.proofs.write_number.Statement.{statement}
 use Rattle.send.proofs.write_number.Tie as tie
 
 count-of-requires : tie.Need-count-of-requires
-count-of-requires c κs = c .before .before .pre .sheet
+count-of-requires c κs = search needs
 
 -- past the first test the block is one of the sheet
 below : (c : tie.Else1)
     → c .before .before .before .before .args .number < blockCount (c .before .before .before .before .args .h) (c .before .before .before .before .args .grid .now)
 below c =
-    subst (λ (n : ℕ). c .before .before .before .before .args .number < n) (c .before .count-of .ensures) (c .if1 .left)
+    subst (λ (n : ℕ). c .before .before .before .before .args .number < n) (c .before .count-of .ensures ∙ counts (c .before .before .before .before .pre .sheet)) (c .if1 .left)
 
 returns : tie.Need-returns
 returns c =
     let o = c .before .before .before .before in
     past-end (o .args .template .now) (o .args .h) (o .args .grid .now) (o .args .number) (o .args .block .now)
-    (c .before .count-of .result) (c .before .count-of .ensures) (c .if1 .taken)
+    (c .before .count-of .result) (c .before .count-of .ensures ∙ counts (o .pre .sheet)) (c .if1 .taken)
 
-write-block-zero-requires : tie.Need-write-block-zero-requires
-write-block-zero-requires c κs = c .before .before .before .before .before .before .pre
+write-title-requires : tie.Need-write-title-requires
+write-title-requires c κs = search needs
 
 same-length : tie.Need-same-length
 same-length c = search needs
@@ -35,16 +36,16 @@ returns-2 c =
     let n = w .before .before in
     let o = n .before .before .before .before .before in
     written-zero (o .args .template .now) (o .args .h) (o .args .grid .now) (o .args .number) (o .args .block .now)
-    (w .write-block-zero .last .1 .1 .1 .0)
+    (w .write-title .last .1 .1 .1 .0)
     (below (n .before))
     (n .if2 .taken)
-    (w .write-block-zero .ensures)
+    (w .write-title .ensures ∙ title-block (o .pre))
 
 write-later-requires : tie.Need-write-later-requires
 write-later-requires c κs =
     let n = c .before in
     let p = n .before .before .before .before .before .pre in
-    record { sheet = p .sheet; later = some-of (n .if2 .left); below = below (n .before); long = p .long }
+    record { sheet = p .sheet; later = omega (arith, n .if2 .left); below = below (n .before); long = p .long }
 
 same-length-2 : tie.Need-same-length-2
 same-length-2 c = search needs
@@ -66,7 +67,7 @@ write-number-spec =
     (tie.spec
     count-of-requires
     returns
-    write-block-zero-requires
+    write-title-requires
     same-length
     returns-2
     write-later-requires

@@ -3,11 +3,12 @@ use native.Mathlib.Omega.{arith}
 use lib.ListN.{length}
 use Prim.Native.Nat.{_≤_}
 use borrow.Author.Needs.{needs}
-use mathlib.Core.Path.{refl, _∙_}
+use mathlib.Core.Path.{_≡_, refl, _∙_}
 use lib.Seq.{length-take-le}
 use Rattle.frame.specs.Frame.{columnsOf, rowsOf}
 use Rattle.written.specs.Blocks.{blockZero}
 use Rattle.written.proofs.SheetSent.{start-from}
+use Rattle.send.proofs.BlockCells.{title-block}
 use Rattle.send.proofs.WholeText.{block-put, whole-put}
 use Rattle.send.proofs.whole_sheet.write_blocks.Statement.{statement}
 use Rattle.send.proofs.whole_sheet.write_blocks.Tie as tie
@@ -15,23 +16,30 @@ use Rattle.send.proofs.whole_sheet.write_blocks.Tie as tie
 room : (s : tie.Start) → 1024 ≤ length (s .args .out .now)
 room s = omega (arith, s .pre .room, start-from (rowsOf (s .args .h)) (s .args .grid .now) (columnsOf (s .args .h)))
 
-sub-write-block-zero : tie.Need-sub-write-block-zero
-sub-write-block-zero c = search needs
+sub-write-title : tie.Need-sub-write-title
+sub-write-title c = search needs
 
-part-write-block-zero-start : tie.Need-part-write-block-zero-start
-part-write-block-zero-start c = search needs
+part-write-title-start : tie.Need-part-write-title-start
+part-write-title-start c = search needs
 
-part-write-block-zero-end : tie.Need-part-write-block-zero-end
-part-write-block-zero-end c = room (c .before .before)
+part-write-title-end : tie.Need-part-write-title-end
+part-write-title-end c = room (c .before .before)
 
-write-block-zero-requires : tie.Need-write-block-zero-requires
-write-block-zero-requires c κs =
-    let s = c .before .before .before in
-    record {
+write-title-requires : tie.Need-write-title-requires
+write-title-requires c κs = search needs
+
+-- what is lent has become block 0
+zero-is : (c : tie.After-write-title)
+    → c .write-title .last .1 .1 .1 .0
+    ≡ blockZero (c .before .before .before .before .args .template .now) (c .before .before .before .before .args .h) (c .before .before .before .before .args .grid .now)
+zero-is c =
+    let s = c .before .before .before .before in
+    c .write-title .ensures
+    ∙ title-block (record {
       sheet = s .pre .sheet;
       template-long = s .pre .template-long;
       long = length-take-le 1024 (s .args .out .now) (room s);
-    }
+    })
 
 write-columns-requires : tie.Need-write-columns-requires
 write-columns-requires c κs =
@@ -41,7 +49,7 @@ write-columns-requires c κs =
     record {
       sheet = s .pre .sheet;
       room =
-          block-put (s .args .out .now) zero 0 1024 (room s) refl (z .write-block-zero .last .1 .1 .1 .0) (z .write-block-zero .ensures) (z .write-block-zero .kept .1 .1 .1 .0) .kept
+          block-put (s .args .out .now) zero 0 1024 (room s) refl (z .write-title .last .1 .1 .1 .0) (zero-is z) (z .write-title .kept .1 .1 .1 .0) .kept
           ∙ s .pre .room;
     }
 
@@ -57,7 +65,7 @@ returns c =
     let grid = s .args .grid .now in
     let zero = blockZero (s .args .template .now) h grid in
     whole-put h grid (s .args .template .now)
-    (block-put (s .args .out .now) zero 0 1024 (room s) refl (z .write-block-zero .last .1 .1 .1 .0) (z .write-block-zero .ensures) (z .write-block-zero .kept .1 .1 .1 .0))
+    (block-put (s .args .out .now) zero 0 1024 (room s) refl (z .write-title .last .1 .1 .1 .0) (zero-is z) (z .write-title .kept .1 .1 .1 .0))
     (w .write-columns .ensures .0)
     (w .write-columns .ensures .1)
 
@@ -65,10 +73,10 @@ pub write-blocks-spec : {M : Type 1} → statement M
 write-blocks-spec =
     tie.close
     (tie.spec
-    sub-write-block-zero
-    part-write-block-zero-start
-    part-write-block-zero-end
-    write-block-zero-requires
+    sub-write-title
+    part-write-title-start
+    part-write-title-end
+    write-title-requires
     write-columns-requires
     same-length
     returns)

@@ -1,6 +1,6 @@
 -- The column's blocks one behind the other: after k turns the first k stand; WholeText has one more.
 use Prim.Native.Nat.{_+_, _*_, _≤_, _-_, ℕ}
-use mathlib.Core.Path.{_≡_, sym, subst, _∙_, ap}
+use mathlib.Core.Path.{_≡_, _∙_, ap}
 use lib.ListN.{length, drop, length-drop}
 use borrow.Author.Needs.{needs}
 use native.Mathlib.Omega.{arith}
@@ -8,10 +8,12 @@ use lib.Seq.{length-take-le}
 use Rattle.numerals.specs.Pieces.{Puts}
 use Rattle.numerals.proofs.Pieces.{put-none}
 use Rattle.ground.specs.Posts.{blocksFor}
-use Rattle.written.specs.Cells.{columnAt, firstRow, columnCells, cellsSent, profileCells}
+use Rattle.written.specs.Cells.{columnCells, cellsSent}
 use Rattle.written.specs.Blocks.{profileBlock}
+use Rattle.columns.specs.declared.Column.{Column}
+use Rattle.census.specs.Census.{profileOf}
+use Rattle.census.proofs.CensusLaws.{sheet-column}
 use Rattle.send.specs.WholeSteps.{blocksText}
-use Rattle.send.proofs.ScanLaws.{sizes, column-room}
 use Rattle.send.proofs.WholeText.{block-put, block-more, named}
 use Rattle.send.proofs.whole_sheet.write_column.Statement.{statement}
 use Rattle.send.proofs.whole_sheet.write_column.Tie as tie
@@ -23,39 +25,24 @@ Inv-loop h grid column at out₀ found blocks from₀ k₀ out from k =
 abbrev μ-loop : tie.MeasureT-loop
 μ-loop h grid column at out₀ found blocks from₀ k₀ out from k = blocks - k
 
-rows-requires : tie.Need-rows-requires Inv-loop μ-loop
-rows-requires c κs = tt
-
-column-at-requires : tie.Need-column-at-requires Inv-loop μ-loop
-column-at-requires c κs =
-    let s = c .before .before in
-    subst (λ (r : ℕ). s .args .column * r + r ≤ length (s .args .grid .now)) (sym (c .rows .ensures))
-    (column-room (sizes (s .pre .sheet)) (s .args .column) (s .pre .inside))
+column-of-requires : tie.Need-column-of-requires Inv-loop μ-loop
+column-of-requires c κs = search needs
 
 -- what the column was found to be is what is sent of it
-row-is : (c : tie.After-column-at Inv-loop μ-loop)
-    → c .column-at .result .row
-    ≡ firstRow (columnCells (c .before .before .before .args .h) (c .before .before .before .args .grid .now) (c .before .before .before .args .column))
-row-is c =
-    let s = c .before .before .before in
-    c .column-at .ensures .0
-    ∙ ap (λ (r : ℕ). firstRow (columnAt r (s .args .grid .now) (s .args .column))) (c .before .rows .ensures)
-
-posts-are : (c : tie.After-column-at Inv-loop μ-loop)
-    → c .column-at .result .posts
-    ≡ length (cellsSent (c .before .before .before .args .h) (c .before .before .before .args .grid .now) (c .before .before .before .args .column))
-posts-are c =
-    let s = c .before .before .before in
-    c .column-at .ensures .1
-    ∙ ap (λ (r : ℕ). length (profileCells (columnAt r (s .args .grid .now) (s .args .column)))) (c .before .rows .ensures)
+found-is : (c : tie.After-column-of Inv-loop μ-loop)
+    → c .column-of .result ≡ profileOf (columnCells (c .before .before .args .h) (c .before .before .args .grid .now) (c .before .before .args .column))
+found-is c =
+    let s = c .before .before in
+    c .column-of .ensures
+    ∙ sheet-column (s .args .h) (s .args .grid .now) (s .pre .sheet .obeys) (s .pre .sheet .room) (s .args .column) (s .pre .inside)
 
 blocks-for-requires : tie.Need-blocks-for-requires Inv-loop μ-loop
 blocks-for-requires c κs = search needs
 
 blocks-are : (c : tie.After-blocks-for Inv-loop μ-loop)
     → c .blocks-for .result
-    ≡ blocksFor (length (cellsSent (c .before .before .before .before .args .h) (c .before .before .before .before .args .grid .now) (c .before .before .before .before .args .column)))
-blocks-are c = c .blocks-for .ensures ∙ ap blocksFor (posts-are (c .before))
+    ≡ blocksFor (length (cellsSent (c .before .before .before .args .h) (c .before .before .before .args .grid .now) (c .before .before .before .args .column)))
+blocks-are c = c .blocks-for .ensures ∙ ap (λ (x : Column). blocksFor (x .posts)) (found-is (c .before))
 
 loop-holds : tie.Need-loop-holds Inv-loop μ-loop
 loop-holds c = (omega arith, (omega arith, put-none _ _))
@@ -69,12 +56,12 @@ room c =
       l .loop .inv .1 .0,
       l .loop .inv .1 .1 .kept,
       blocks-are (l .before),
-      l .before .before .before .before .before .pre .room,
+      l .before .before .before .before .pre .room,
       c .loop-test .taken,
     )
 
 add-end : tie.Need-add-end Inv-loop μ-loop
-add-end c = omega (arith, room c, c .before .loop .inv .1 .1 .kept, c .before .before .before .before .before .before .fits)
+add-end c = omega (arith, room c, c .before .loop .inv .1 .1 .kept, c .before .before .before .before .before .fits)
 
 sub-write-profile-block : tie.Need-sub-write-profile-block Inv-loop μ-loop
 sub-write-profile-block c = omega arith
@@ -90,15 +77,15 @@ write-profile-block-requires c κs =
     let o = c .before in
     let l = o .before in
     let a = l .before .before in
-    let s = a .before .before .before in
+    let s = a .before .before in
     let out = l .loop .out in
     let from = l .loop .from in
     let e : from + 1024 - from ≡ 1024 = omega arith in
     record {
       sheet = s .pre .sheet;
       inside = s .pre .inside;
-      row-is = row-is a;
-      posts-are = posts-are a;
+      row-is = ap (λ (x : Column). x .row) (found-is a);
+      posts-are = ap (λ (x : Column). x .posts) (found-is a);
       within = omega (arith, o .loop-test .taken, l .before .blocks-for .ensures);
       long =
           length-take-le (from + 1024 - from) (drop from out) (omega (arith, e, room o, length-drop from out)) ∙ e;
@@ -115,7 +102,7 @@ loop-again c =
     let w = c .before .before in
     let o = w .before .before in
     let l = o .before in
-    let s = l .before .before .before .before .before in
+    let s = l .before .before .before .before in
     let from = l .loop .from in
     let k = l .loop .k in
     let e : from + 1024 - from ≡ 1024 = omega arith in
@@ -137,7 +124,7 @@ same-length c = c .before .loop .inv .1 .1 .kept
 returns : tie.Need-returns Inv-loop μ-loop
 returns c =
     let l = c .before in
-    let s = l .before .before .before .before .before in
+    let s = l .before .before .before .before in
     let e : l .loop .k ≡ l .before .blocks-for .result = omega arith in
     let b = e ∙ blocks-are (l .before) in (
       named (ap (blocksText (s .args .h) (s .args .grid .now) (s .args .column)) b) (l .loop .inv .1 .1),
@@ -150,8 +137,7 @@ write-column-spec =
     (tie.spec
     Inv-loop
     μ-loop
-    rows-requires
-    column-at-requires
+    column-of-requires
     blocks-for-requires
     loop-holds
     add-end

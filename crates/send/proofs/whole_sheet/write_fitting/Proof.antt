@@ -8,20 +8,25 @@ use mathlib.Core.Bool.{false, true}
 use borrow.Author.Tests.{ne-eqb, eq-eqb}
 use lib.Dec.{eqb}
 use Rattle.written.specs.Cells.{blockCount}
+use Rattle.send.proofs.AnswerLaws.{counts}
 use Rattle.send.proofs.WholeText.{count-most}
 use Rattle.send.proofs.whole_sheet.write_fitting.Statement.{statement}
 use Rattle.send.proofs.whole_sheet.write_fitting.Tie as tie
 
+count-is : (c : tie.After-count-of)
+    → c .count-of .result ≡ blockCount (c .before .before .before .args .h) (c .before .before .before .args .grid .now)
+count-is c = c .count-of .ensures ∙ counts (c .before .before .before .pre .sheet)
+
 fits : (c : tie.Else1)
     → length (c .before .before .before .before .args .out .now)
     ≡ 1024 * blockCount (c .before .before .before .before .args .h) (c .before .before .before .before .args .grid .now)
-fits c = c .if1 .left ∙ ap (λ (k : ℕ). 1024 * k) (c .before .count-of .ensures)
+fits c = c .if1 .left ∙ ap (λ (k : ℕ). 1024 * k) (count-is (c .before))
 
 count-of-requires : tie.Need-count-of-requires
 count-of-requires c κs = search needs
 
 mul-if1 : tie.Need-mul-if1
-mul-if1 c = omega (arith, c .count-of .ensures, count-most (c .before .before .before .pre .sheet))
+mul-if1 c = omega (arith, count-is c, count-most (c .before .before .before .pre .sheet))
 
 returns : tie.Need-returns
 returns c =
@@ -29,7 +34,7 @@ returns c =
     let a = n .before .before .before .args in
     let count = blockCount (a .h) (a .grid .now) in
     let t : eqb (length (a .out .now)) (1024 * count) ≡ false
-    = ne-eqb (length (a .out .now)) (1024 * count) (λ e. c .if1 .taken (e ∙ ap (λ (k : ℕ). 1024 * k) (sym (n .count-of .ensures)))) in
+    = ne-eqb (length (a .out .now)) (1024 * count) (λ e. c .if1 .taken (e ∙ ap (λ (k : ℕ). 1024 * k) (sym (count-is n)))) in
     rw t (refl, refl)
 
 write-blocks-requires : tie.Need-write-blocks-requires

@@ -1,0 +1,3 @@
+pub mod ZeroTable
+pub mod ZeroWalk
+pub mod TitleFits

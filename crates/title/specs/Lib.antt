@@ -1,0 +1,2 @@
+pub mod Title
+pub mod ZeroSteps
