@@ -1,1 +1,2 @@
 pub mod CensusLaws
+pub mod OneAnswer

@@ -2,3 +2,4 @@ pub mod Columns
 pub mod Sendable
 pub mod ExtremeLaws
 pub mod GridJudged
+pub mod OneAnswer

@@ -2,3 +2,4 @@ pub mod Stretches
 pub mod Ranges
 pub mod Rules
 pub mod FieldRules
+pub mod OneAnswer

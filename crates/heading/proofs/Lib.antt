@@ -1,3 +1,4 @@
 pub mod HeadingFacts
 pub mod LimitKinds
 pub mod Fresh
+pub mod OneAnswer

@@ -1,3 +1,4 @@
 pub mod Multiples
 pub mod Cases
 pub mod LatticeLaws
+pub mod OneAnswer

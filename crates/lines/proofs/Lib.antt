@@ -1,2 +1,3 @@
 pub mod Putting
 pub mod Examples
+pub mod OneAnswer

@@ -3,3 +3,4 @@ pub mod Judged
 pub mod Placed
 pub mod Readiness
 pub mod Applied
+pub mod OneAnswer

@@ -10,3 +10,4 @@ pub mod GrammarForms
 pub mod GrammarValues
 pub mod Grammar
 pub mod Limits
+pub mod OneAnswer

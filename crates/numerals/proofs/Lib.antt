@@ -3,3 +3,4 @@ pub mod Spelling
 pub mod Counts
 pub mod Spelled
 pub mod Numerals
+pub mod OneAnswer

@@ -1,1 +1,1 @@
-pub mod NoSecondAnswer
+pub mod OneAnswer

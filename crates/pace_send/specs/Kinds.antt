@@ -1,7 +1,7 @@
 -- An answer of the writer as one number, for C.
 use Prim.Native.Nat.{ℕ}
-use Rattle.send.specs.declared.Sent.{Sent}
-use Rattle.send.specs.declared.Sent.the-variants.{Written, Refused}
+use Rattle.written.specs.declared.Sent.{Sent}
+use Rattle.written.specs.declared.Sent.the-variants.{Written, Refused}
 
 -- 0 for written, else document 01's kind
 abbrev pub kindOf : Sent → ℕ

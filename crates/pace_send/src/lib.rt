@@ -1,9 +1,8 @@
 // The writer behind C calls, for bench/send.c: a measure of speed, no part of the library.
-use send::Sent;
+use written::Sent;
 ghost use mathlib.Core.Path.{_≡_};
 ghost use lib.ListN.{length};
-ghost use Rattle.written.specs.Sending.{blockFault, blockAfter, countOf};
-ghost use Rattle.send.specs.SendSteps.{sentBy, sheetSentFault, sheetAfter};
+ghost use Rattle.written.specs.Sending.{blockFault, blockAfter, countOf, sentBy, sheetSentFault, sheetAfter};
 ghost use Rattle.pace_send.specs.Kinds.{kindOf};
 
 // 0 for written.

@@ -1,3 +1,4 @@
 pub mod FieldLaws
 pub mod Fitting
 pub mod PartLaws
+pub mod OneAnswer

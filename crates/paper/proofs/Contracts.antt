@@ -6,8 +6,13 @@ use denote.Triple.Clauses.{AtExit}
 use borrow.Fn.World.{ArgsD, ResD}
 use Rattle.delivery.specs.Deliver.{lend}
 use Rattle.meaning.specs.Deliveries.{Promised}
+use Rattle.returns.specs.Writers.{Wrote, WroteSheet}
 use Rattle.load.proofs.deliver as deliver
 use Rattle.load.proofs.deliver.Reads as deliver·reads
+use Rattle.send.proofs.write_block as write_block
+use Rattle.send.proofs.write_block.Reads as write_block·reads
+use Rattle.send.proofs.write_sheet as write_sheet
+use Rattle.send.proofs.write_sheet.Reads as write_sheet·reads
 
 pub deliver-promises : (κs : Lfts 2) (a : ArgsD deliver.signature κs) (z : ResD deliver.signature κs) (e : AtExit deliver.ended κs)
     → deliver·reads.Learnt κs a z e
@@ -18,3 +23,14 @@ pub deliver-promises : (κs : Lfts 2) (a : ArgsD deliver.signature κs) (z : Res
       left = lend (now (e .1 .1 .1 .0));
     }
 deliver-promises κs a z e told = record { answers = told .0; fills = told .1 }
+
+pub write-block-promises : (κs : Lfts 3) (a : ArgsD write_block.signature κs) (z : ResD write_block.signature κs) (e : AtExit write_block.ended κs)
+    → write_block·reads.Learnt κs a z e
+    → Wrote (now (a .0)) (now (a .1 .0))
+    record { number = a .1 .1 .0; lent = now (a .1 .1 .1 .0); returned = z; left = now (e .1 .1 .1 .0) }
+write-block-promises κs a z e told = record { answers = told .0; writes = told .1 }
+
+pub write-sheet-promises : (κs : Lfts 3) (a : ArgsD write_sheet.signature κs) (z : ResD write_sheet.signature κs) (e : AtExit write_sheet.ended κs)
+    → write_sheet·reads.Learnt κs a z e
+    → WroteSheet (now (a .0)) (now (a .1 .0)) record { lent = now (a .1 .1 .0); returned = z; left = now (e .1 .1 .0) }
+write-sheet-promises κs a z e told = record { answers = told .0; writes = told .1 }

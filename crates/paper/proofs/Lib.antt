@@ -1,3 +1,2 @@
 pub mod Claim
-pub mod NoSecondAnswer
 pub mod Contracts

@@ -2,3 +2,4 @@ pub mod PostRange
 pub mod Scans
 pub mod BlockScans
 pub mod Asking
+pub mod OneAnswer

@@ -3,3 +3,4 @@ pub mod Datum
 pub mod Verdicts
 pub mod RecordLaws
 pub mod RecordRules
+pub mod OneAnswer

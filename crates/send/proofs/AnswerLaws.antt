@@ -13,7 +13,7 @@ use Rattle.frame.specs.declared.Header.{Header}
 use Rattle.frame.specs.Frame.{columnsOf, rowsOf}
 use Rattle.heading.specs.Heading.{headerOf}
 use Rattle.sheet.proofs.SheetObeys.{sheet-obeys}
-use Rattle.written.specs.Sending.{sheetFault, Fault, fault, blockFault, blockAfter, countOf}
+use Rattle.written.specs.Sending.{sheetFault, Fault, fault, blockFault, blockAfter, countOf, sentBy}
 use Rattle.written.specs.Cells.{blockCount, columnWith}
 use Rattle.written.specs.Blocks.{profileBlock, blockZero, blockSent}
 use Rattle.written.proofs.SheetPasses.{fine-passes}
@@ -25,9 +25,9 @@ use Rattle.census.specs.Census.{counted, foundBy, foundAt}
 use Rattle.census.specs.declared.Found.{Found}
 use Rattle.census.proofs.CensusLaws.{sheet-counted, sheet-found}
 use Rattle.send.specs.WholeSteps.{FitAsked}
-use Rattle.send.specs.declared.Sent.{Sent}
-use Rattle.send.specs.declared.Sent.the-variants.{Refused, Written}
-use Rattle.send.specs.SendSteps.{SendableSheet, sentBy, ZeroAsked, ProfileAsked}
+use Rattle.written.specs.declared.Sent.{Sent}
+use Rattle.written.specs.declared.Sent.the-variants.{Refused, Written}
+use Rattle.send.specs.SendSteps.{SendableSheet, ZeroAsked, ProfileAsked}
 use Rattle.send.specs.AnswerSteps.{countFault, numbered, LaterAsked, laterBlock}
 
 -- ---- a sheet that nothing stands against can be sent

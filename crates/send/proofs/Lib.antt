@@ -5,3 +5,4 @@ pub mod BlockPlaces
 pub mod WholeText
 pub mod WholeJudged
 pub mod WholeBlocks
+pub mod OneAnswer

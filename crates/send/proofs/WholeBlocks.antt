@@ -14,10 +14,9 @@ use Rattle.heading.specs.Heading.{headerOf}
 use Rattle.ground.proofs.BlocksJoined.{text-length, block-at}
 use Rattle.written.specs.Cells.{blockCount}
 use Rattle.written.specs.Blocks.{blockSent}
-use Rattle.written.specs.Sending.{sheetFault, blockFault, blockAfter, countOf, sentText}
+use Rattle.written.specs.Sending.{sheetFault, blockFault, blockAfter, countOf, sentText, sheetSentFault, sheetAfter}
 use Rattle.written.proofs.BlocksSent.{block-long}
 use Rattle.send.specs.WholeSteps.{FitAsked}
-use Rattle.send.specs.SendSteps.{sheetSentFault, sheetAfter}
 use Rattle.send.proofs.AnswerLaws.{fine-fits}
 
 module _ (template : List ℕ) (h : Header) (grid : List ℤ) (fit : FitAsked template h grid) where

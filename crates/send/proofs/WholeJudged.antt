@@ -10,12 +10,11 @@ use Rattle.laws.proofs.Tests.{by-test}
 use Rattle.frame.specs.declared.Header.{Header}
 use Rattle.heading.specs.Heading.{headerOf}
 use Rattle.written.specs.Cells.{blockCount}
-use Rattle.written.specs.Sending.{Fault, fault, sheetFault, countOf, sentText}
+use Rattle.written.specs.Sending.{Fault, fault, sheetFault, countOf, sentText, sentBy, sheetSentFault, sheetAfter}
 use Rattle.columns.specs.declared.judging.Judged.the-variants.{Good, Bad}
 use Rattle.columns.specs.Judging.{judgedBy}
-use Rattle.send.specs.declared.Sent.{Sent}
-use Rattle.send.specs.declared.Sent.the-variants.{Refused}
-use Rattle.send.specs.SendSteps.{sentBy, sheetSentFault, sheetAfter}
+use Rattle.written.specs.declared.Sent.{Sent}
+use Rattle.written.specs.declared.Sent.the-variants.{Refused}
 use Rattle.send.specs.WholeSteps.{wholeText, roomFault}
 use Rattle.send.proofs.AnswerLaws.{judged-bad, good-header, good-fine, good-count}
 use Rattle.send.proofs.WholeText.{whole-is}

@@ -5,17 +5,12 @@ mod whole_sheet;
 use columns::judging;
 use columns::judging::Judged;
 use frame::Header;
+use written::Sent;
 ghost use mathlib.Core.Path.{_≡_};
 ghost use lib.ListN.{length};
-ghost use Rattle.written.specs.Sending.{blockFault, blockAfter, countOf};
-ghost use Rattle.send.specs.SendSteps.{sentBy, sheetSentFault, sheetAfter, ZeroAsked};
+ghost use Rattle.written.specs.Sending.{blockFault, blockAfter, countOf, sentBy, sheetSentFault, sheetAfter};
+ghost use Rattle.send.specs.SendSteps.{ZeroAsked};
 ghost use Rattle.send.specs.AnswerSteps.{LaterAsked, laterBlock, countFault, numbered};
-
-// What a writer answers: written, or document 01's kind with its one number.
-pub enum Sent {
-    Written,
-    Refused(u32, u64),
-}
 
 // How many blocks a template and grid have; 0 where they are refused. So a caller can loop without provoking a refusal.
 pub fn block_count(template: &[u8], grid: &[i32]) -> u64

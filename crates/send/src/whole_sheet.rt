@@ -1,14 +1,14 @@
 // A whole sheet into one lent buffer, column by column: a column is looked up once for all its blocks, where one block's call must find it anew.
-use crate::Sent;
 use crate::one_block;
 use frame::Header;
+use written::Sent;
 ghost use mathlib.Core.Path.{_≡_};
 ghost use mathlib.Core.Bool.{cond};
 ghost use Prim.Native.Nat.{_+_, _*_};
 ghost use lib.Dec.{eqb};
 ghost use lib.ListN.{length};
 ghost use Rattle.numerals.specs.Pieces.{Puts};
-ghost use Rattle.send.specs.SendSteps.{sentBy};
+ghost use Rattle.written.specs.Sending.{sentBy};
 ghost use Rattle.send.specs.WholeSteps.{ColumnAsked, ColumnsAsked, BlocksAsked, FitAsked, columnText, columnsText, wholeText, roomFault};
 ghost use Rattle.frame.specs.Frame.{columnsOf};
 ghost use Rattle.written.specs.Cells.{blockCount, cellsSent};

@@ -4,7 +4,7 @@ mod output;
 
 use input::Cells;
 use libc::STDIN_FILENO;
-use send::Sent;
+use written::Sent;
 ghost use mathlib.Core.Path.{_≡_};
 ghost use Prim.Native.Nat.{_*_, _≤_};
 ghost use lib.ListN.{length};

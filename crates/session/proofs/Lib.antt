@@ -1,3 +1,4 @@
 pub mod Facts
 pub mod Bounds
 pub mod Sound
+pub mod OneAnswer

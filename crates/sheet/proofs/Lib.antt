@@ -3,3 +3,4 @@ pub mod RowRules
 pub mod HeaderA
 pub mod RulesA
 pub mod SheetObeys
+pub mod OneAnswer

@@ -7,3 +7,4 @@ pub mod Exponents
 pub mod Fits
 pub mod ReadBack
 pub mod Examples
+pub mod OneAnswer

@@ -1,3 +1,4 @@
 pub mod ZeroTable
 pub mod ZeroWalk
 pub mod TitleFits
+pub mod OneAnswer

@@ -1,0 +1,21 @@
+-- No second answer: for each public function its contract, as it stands, leaves one result and one state of what was lent.
+use denote.Ref.{now}
+use Rattle.laws.proofs.Answers.{one-answer, OneLeft, OneResult}
+use Rattle.listing.proofs.begin.Reads as begin·told
+use Rattle.listing.proofs.put_last.Reads as put-last·told
+use Rattle.listing.proofs.take_block.Reads as take-block·told
+
+pub begin : OneResult begin·told.Learnt
+begin κs a z z′ e e′ p q = one-answer p q
+
+pub take-block : OneResult take-block·told.Learnt
+take-block κs a z z′ e e′ p q = one-answer (p .0) (q .0)
+
+pub take-block-grid : OneLeft take-block·told.Learnt (λ κs e. now (e .1 .1 .1 .0))
+take-block-grid κs a z z′ e e′ p q = one-answer (p .1) (q .1)
+
+pub put-last : OneResult put-last·told.Learnt
+put-last κs a z z′ e e′ p q = one-answer (p .0) (q .0)
+
+pub put-last-out : OneLeft put-last·told.Learnt (λ κs e. now (e .1 .0))
+put-last-out κs a z z′ e e′ p q = one-answer (p .1) (q .1)

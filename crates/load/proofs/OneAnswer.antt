@@ -1,0 +1,10 @@
+-- No second answer: for each public function its contract, as it stands, leaves one result and one state of what was lent.
+use denote.Ref.{now}
+use Rattle.laws.proofs.Answers.{one-answer, OneLeft, OneResult}
+use Rattle.load.proofs.deliver.Reads as deliver·told
+
+pub deliver : OneResult deliver·told.Learnt
+deliver κs a z z′ e e′ p q = one-answer (p .0) (q .0)
+
+pub deliver-grid : OneLeft deliver·told.Learnt (λ κs e. now (e .1 .1 .1 .0))
+deliver-grid κs a z z′ e e′ p q = one-answer (p .1) (q .1)
