@@ -25,7 +25,6 @@ use Rattle.field.specs.declared.Limits.{Limits}
 use Rattle.heading.specs.Heading.{level, system, zone, ground, vertical, accuracy, spacing, height as tall, profiles, limitsOf, headerOf}
 use Rattle.heading.proofs.LimitKinds.{limits-kind}
 use Rattle.sheet.specs.RecordA.{fields, firstFault}
-use Rattle.sheet.specs.RulesA.{kindOf}
 use Rattle.sheet.proofs.HeaderA.{field-fine}
 use Rattle.sheet.proofs.RulesA.{sheet-fine}
 use Rattle.profile.specs.RecordB.{recordB, headFault, headFields, headOf, hundredths, isDatum, datumField}
@@ -224,7 +223,7 @@ module _ (block : List ℕ) (fine : firstFault block fields .kind ≡ 0) where
   abbrev by : ℕ → Limits
   by name = limitsOf name (wholeAt 157 block) (wholeAt 535 block)
 
-  named : (name : ℕ) → (kindOf name ≡ 0 → ⊥) → by name .kind ≡ 0 → ⊥
+  named : (name : ℕ) → (limitsOf name 0 0 .kind ≡ 0 → ⊥) → by name .kind ≡ 0 → ⊥
   named name n z = n (sym (limits-kind name (wholeAt 157 block) (wholeAt 535 block)) ∙ z)
 
   pub header-means : AllMean block (headerNumbers (headerOf block))
