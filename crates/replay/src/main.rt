@@ -78,7 +78,8 @@ fn deliver(s: Session, next: Next, block: &[u8], grid: &mut [i32]) -> Session
     let delivered = load::deliver(s, next.number, &block[..bytes], &mut grid[..lent]);
     let answer = delivered.answer;
     output::write_answer(answer);
-    delivered.session
+    let after = delivered.session;
+    after
 }
 
 // What stands at the end of a script, unless it was bad.
