@@ -67,7 +67,8 @@ module _ (template : List ℕ) (grid : List ℤ) (w : Writing) (promised : Wrote
   answered-as-listed = rw (promised .answers) (Refusals.listed template grid (w .number) (length (w .lent)))
 
   fine-or-not : (w .returned ≡ Written) ↔ (blockFault template grid (w .number) (length (w .lent)) .kind ≡ 0)
-  fine-or-not = Refusals.written-fine (promised .answers)
+  fine-or-not =
+      Refusals.written-fine (w .returned) (blockFault template grid (w .number) (length (w .lent))) (promised .answers)
 
   pub accepted-exactly : (w .returned ≡ Written) ↔ Accepts template grid (w .number) (w .lent)
   accepted-exactly = (
@@ -112,7 +113,7 @@ module _ (template : List ℕ) (grid : List ℤ) (can : CanBeSent template grid)
   same-order =
       order
       ∙ map-same (delivery block) (delivery (blockSent template h grid)) 0 count
-      (λ b p q. ap (λ (l : List ℕ). record { number = b; bytes = l }) (sent b q))
+      (λ b p q. ap (λ (l : List ℕ). record { number = b; bytes = l }) (sent b (omega (arith, q))))
       ∙ ap (inOrder (blockSent template h grid)) (sym count-is)
 
   abbrev end : Desk
@@ -199,7 +200,7 @@ module _ (template : List ℕ) (grid : List ℤ) (w : SheetWriting) (promised : 
   blocks = blockCount (headerOf template) grid
 
   fine-or-not-sheet : (w .returned ≡ Written) ↔ (sheetSentFault template grid (length (w .lent)) .kind ≡ 0)
-  fine-or-not-sheet = Refusals.written-fine (promised .answers)
+  fine-or-not-sheet = Refusals.written-fine (w .returned) (sheetSentFault template grid (length (w .lent))) (promised .answers)
 
   -- accepted exactly where the sheet can be sent and the buffer has its blocks' bytes
   pub sheet-accepted-exactly : (w .returned ≡ Written) ↔ (CanBeSent template grid × (length (w .lent) ≡ 1024 * blocks))
@@ -219,8 +220,8 @@ module _ (template : List ℕ) (grid : List ℤ) (w : SheetWriting) (promised : 
     λ all.
         let zero = Whole.call template grid 0 in
         let p = Whole.call-keeps template grid 0 in
-        let first : zero .returned ≡ Written
-        = all .1 zero p (length-replicate 1024 0) (start-from (rowsOf (headerOf template)) grid (columnsOf (headerOf template))) in
+        let some = start-from (rowsOf (headerOf template)) grid (columnsOf (headerOf template)) in
+        let first : zero .returned ≡ Written = all .1 zero p (length-replicate {A = ℕ} 1024 0) (omega (arith, some)) in
         sheet-accepted-exactly .1 (accepted-exactly template grid zero p .0 first .sendable, all .0),
   )
 

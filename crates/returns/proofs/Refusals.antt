@@ -17,13 +17,13 @@ use Rattle.heading.specs.Heading.{headerOf}
 use Rattle.sheet.specs.RecordA.{recordA}
 use Rattle.sheet.specs.declared.Checked.{Checked}
 use Rattle.sheet.specs.declared.Checked.the-variants.{Sheet, Refused as NoSheet}
-use Rattle.sheet.proofs.HeaderA.{sheet-header}
+use Rattle.sheet.proofs.RulesA.{sheet-header}
 use Rattle.ground.specs.Posts.{void}
 use Rattle.written.specs.declared.Sent.{Sent}
 use Rattle.written.specs.declared.Sent.the-variants.{Written, Refused}
 use Rattle.written.specs.Cells.{canSend, sendable, blockCount}
 use Rattle.written.specs.Blocks.{sheetCells}
-use Rattle.written.specs.Sending.{Fault, sentBy, first, gridFault, checkedFault, sheetFault, numberFault, blockFault}
+use Rattle.written.specs.Sending.{Fault, fault, sentBy, first, gridFault, checkedFault, sheetFault, numberFault, blockFault}
 use Rattle.written.proofs.SheetSent.{sheet-cell, sheet-length, cell-sends}
 use Rattle.written.proofs.SheetPasses.{refused-kind, grid-passes}
 use Rattle.returns.specs.Writers.{CanBeSent, FirstUnsent, Listed, block-length, template-length, template-rule, grid-short, cell-unsent, number-past, accepted}
@@ -80,7 +80,9 @@ module _ (template : List ℕ) (grid : List ℤ) (number bytes : ℕ) where
   by-template : bytes ≡ 1024 → length template ≡ 1024 → (c : Checked) → recordA template ≡ c
       → Listed template grid number bytes (sentBy (first (checkedFault c grid) (numberFault template grid number)))
   by-template one long (NoSheet kind byte) e =
-      let k : eqb kind 0 ≡ false = ne-eqb kind 0 (refused-kind template kind byte e) in rw k (template-rule one long kind byte e)
+      let k : eqb kind 0 ≡ false = ne-eqb kind 0 (refused-kind template kind byte e) in
+      let told : sentBy (first (fault kind byte) (numberFault template grid number)) ≡ Refused kind byte = rw (k, k) in
+      rw told (template-rule one long kind byte e)
   by-template one long (Sheet k) e =
       let same : k ≡ headerOf template = sheet-header template e in
       rw same (by-grid one (e ∙ ap Sheet same))
@@ -96,10 +98,14 @@ module _ (template : List ℕ) (grid : List ℤ) (number bytes : ℕ) where
       (λ a. rw a (block-length (eqb-false bytes 1024 a)))
 
 -- written exactly where nothing is wrong
-pub written-fine : {r : Sent} {f : Fault} → r ≡ sentBy f → (r ≡ Written) ↔ (f .kind ≡ 0)
-written-fine {r} {f} e = (to, λ z. e ∙ (let k : eqb (f .kind) 0 ≡ true = eq-eqb (f .kind) 0 z in rw k))
+pub written-fine : (r : Sent) (f : Fault) → r ≡ sentBy f → (r ≡ Written) ↔ (f .kind ≡ 0)
+written-fine r f e = (to, λ z. e ∙ (let k : eqb (f .kind) 0 ≡ true = eq-eqb (f .kind) 0 z in rw k))
   where
     to : r ≡ Written → f .kind ≡ 0
     to w =
         by-test (eqb (f .kind) 0) (eqb-true (f .kind) 0)
-        (λ k. let q : Refused (f .kind) (f .number) ≡ Written = sym (e ∙ rw k) ∙ w in absurd (let n : _≡_ {A = ℕ} 0 1 = cc in omega (arith, n)))
+        (λ k.
+        let told : sentBy f ≡ Refused (f .kind) (f .number) = rw k in
+        let q : Refused (f .kind) (f .number) ≡ Written = sym told ∙ sym e ∙ w in
+        let n : _≡_ {A = ℕ} 0 1 = cc in
+        absurd (omega (arith, n)))

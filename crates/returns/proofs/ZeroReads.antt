@@ -40,7 +40,7 @@ use Rattle.heading.specs.Heading.{
   headerOf,
 }
 use Rattle.heading.proofs.HeadingFacts.{Ranged, Heading, header-facts}
-use Rattle.sheet.specs.RecordA.{Row, judgeRow, firstFault, recordA, rows, fields, judge, faultOf}
+use Rattle.sheet.specs.RecordA.{Row, judgeRow, firstFault, recordA, row, fields, judge, faultOf}
 use Rattle.sheet.specs.declared.Checked.the-variants.{Sheet}
 use Rattle.sheet.specs.RecordA.Rule.{words, form}
 use Rattle.sheet.specs.RecordASteps.{placeOf, rowFrom}
@@ -159,6 +159,11 @@ height-limits h t =
 
 -- ---- block 0
 
+-- rows of a real's form alone, one behind the other
+abbrev forms : ℕ → ℕ → List Row
+forms zero first = []
+forms (suc n) first = row first 24 form ∷ forms n (first + 24)
+
 module _ (template : List ℕ) (h : Header) (grid : List ℤ) (is : recordA template ≡ Sheet h)
     (fl : realFits 15 24 (leastStated (sheetCells h grid)) ≡ true)
     (fg : realFits 15 24 (greatestStated (sheetCells h grid)) ≡ true) where
@@ -209,7 +214,7 @@ module _ (template : List ℕ) (h : Header) (grid : List ℤ) (is : recordA temp
   template-field = field-fine template (sheet-fine template is)
 
   forms-read : (n first : ℕ) (rs : List Row) → 169 ≤ first → first + n * 24 ≤ 529
-      → Reads template (rows n first 24 form ++ rs) → Reads sent rs → Reads sent (rows n first 24 form ++ rs)
+      → Reads template (forms n first ++ rs) → Reads sent rs → Reads sent (forms n first ++ rs)
   unfolding piecesBy
   forms-read zero first rs a b t s = s
   forms-read (suc n) first rs a b (reads z t) s =

@@ -44,7 +44,7 @@ refused-kind template kind byte e z =
     eqb-false (faultOf template .kind) 0 f (ap checkedKind q ∙ z))
 
 -- "12 (0), 13 first cell ..": neither is so
-grid-passes : (h : Header) (grid : List ℤ) → gridFault h grid .kind ≡ 0
+pub grid-passes : (h : Header) (grid : List ℤ) → gridFault h grid .kind ≡ 0
     → (cellsOf h ≤ length grid) × (sendable (zOf h) (sheetCells h grid) ≡ cellsOf h)
 grid-passes h grid f =
     by-test (ltb (length grid) (cellsOf h))
