@@ -8,6 +8,7 @@ use lib.Dec.{eqb, leb}
 use borrow.Author.Tests.{eqb-true, not-true, leb-true}
 use native.Mathlib.Omega.{arith}
 use lib.ListN.{length, length-take, length-drop}
+use Rattle.laws.specs.Lists.{joined}
 use Rattle.laws.specs.Digits.{short}
 use Rattle.laws.specs.Sign.{_and_}
 use Rattle.laws.proofs.Tests.{either, clash, and-first, and-second, by-test}
@@ -20,7 +21,7 @@ use Rattle.number.proofs.Grammar.{Fits}
 use Rattle.field.specs.Field.{fault, inLimits, ranged, stretch, restFault, Judged, firstOf, faultOr}
 use Rattle.field.specs.declared.Fault.{Fault}
 use Rattle.field.specs.declared.Limits.{Limits}
-use Rattle.field.specs.Rules.{Clause, clause, joined, spared, integerForms, integerBy, integerIn, realRules, realBy, blankRules, KeepsAll, FirstBroken}
+use Rattle.field.specs.Rules.{Clause, clause, spared, integerForms, integerBy, integerIn, realRules, realBy, blankRules, KeepsAll, FirstBroken}
 use Rattle.field.proofs.Ranges.{HasKind}
 use Rattle.field.proofs.Rules.{brokenOr, first-append, nonzero, fault-first, fault-exactly}
 

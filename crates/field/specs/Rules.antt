@@ -23,11 +23,6 @@ pub record Clause : Type 0 where
 abbrev pub clause : ℕ → ℕ → (List ℕ → Bool) → Clause
 clause byte kind kept = record { byte = byte; kind = kind; kept = kept }
 
--- rules of several fields, one field behind the other
-abbrev pub joined : List (List Clause) → List Clause
-joined [] = []
-joined (cs ∷ css) = cs ++ joined css
-
 -- ---- what a field is asked, by its first byte and its width
 
 -- a block has 1,024 bytes (1 at 0)

@@ -11,7 +11,38 @@ use Rattle.field.specs.Field.{inRange, limits, fault}
 use Rattle.field.specs.declared.Limits.{Limits}
 use Rattle.frame.specs.Frame.{cornersInOrder, columnsOf, rowsOf, wholeFault, oneTo2048}
 use Rattle.frame.specs.declared.Header.{Header}
-use Rattle.heading.specs.Heading.{levelLimits, systemLimits, verticalLimits, accuracyLimits, spacingLimits, profilesLimits, heightLimits, billion, zoneLimits, groundLimits, realsObey, fieldsObey, headerObeys}
+use Rattle.heading.specs.Heading.{Name, limitsOf, heightLimits, billion, zoneLimits, groundLimits, realsObey, fieldsObey, headerObeys}
+
+-- limits that go by no other field
+abbrev pub levelLimits : Limits
+levelLimits = limitsOf Name.level 0 0
+
+abbrev pub patternLimits : Limits
+patternLimits = limitsOf Name.pattern 0 0
+
+abbrev pub systemLimits : Limits
+systemLimits = limitsOf Name.system 0 0
+
+abbrev pub verticalLimits : Limits
+verticalLimits = limitsOf Name.vertical 0 0
+
+abbrev pub sidesLimits : Limits
+sidesLimits = limitsOf Name.sides 0 0
+
+abbrev pub angleLimits : Limits
+angleLimits = limitsOf Name.angle 0 0
+
+abbrev pub accuracyLimits : Limits
+accuracyLimits = limitsOf Name.accuracy 0 0
+
+abbrev pub spacingLimits : Limits
+spacingLimits = limitsOf Name.spacing 0 0
+
+abbrev pub rankLimits : Limits
+rankLimits = limitsOf Name.rank 0 0
+
+abbrev pub profilesLimits : Limits
+profilesLimits = limitsOf Name.profiles 0 0
 
 -- a number in its limits
 pub record Ranged (l : Limits) (v : ℕ) : Type 0 where

@@ -1,6 +1,6 @@
 -- Document 01, "Record A": its limits by name, the header that a block says, and what a header must obey.
 use mathlib.Core.Bool.{Bool, cond}
-use mathlib.Core.List.{List, [], _∷_}
+use mathlib.Core.List.{List, [], _∷_, map}
 use Prim.Native.Nat.{ℕ, _+_, _*_, _^_}
 use lib.Dec.{ltb, eqb}
 use lib.IntN.{ℤ, pos, natAbs}
@@ -14,20 +14,10 @@ use Rattle.frame.specs.Frame.{wholeFault}
 use Rattle.frame.specs.declared.Corner.{Corner}
 use Rattle.frame.specs.declared.Header.{Header}
 
--- ---- the limits, each once: least, greatest, step, and the kind of the refusal; reals in billionths
+-- ---- the limits of record A's numbers, each once: least, greatest, step, and the kind of the refusal; reals in billionths
 
 abbrev pub billion : ℕ
 billion = 10 ^ 9
-
--- level 1, 2, 3; pattern 1; system 0, 1, 2
-abbrev pub levelLimits : Limits
-levelLimits = limits 1 3 1 9
-
-abbrev pub patternLimits : Limits
-patternLimits = limits 1 1 1 9
-
-abbrev pub systemLimits : Limits
-systemLimits = limits 0 2 1 9
 
 -- the zone by the system: "0; 1-60; 1-9999 respectively"
 abbrev pub zoneLimits : ℕ → Limits
@@ -37,101 +27,48 @@ zoneLimits system = cond (eqb system 0) (limits 0 0 1 9) (cond (eqb system 1) (l
 abbrev pub groundLimits : ℕ → Limits
 groundLimits system = cond (eqb system 0) (limits 3 3 1 9) (cond (eqb system 1) (limits 2 2 1 9) (limits 1 2 1 9))
 
--- vertical unit 1, 2; sides 4; angle zero; accuracy 0, 1
-abbrev pub verticalLimits : Limits
-verticalLimits = limits 1 2 1 9
-
-abbrev pub sidesLimits : Limits
-sidesLimits = limits 4 4 1 9
-
-abbrev pub angleLimits : Limits
-angleLimits = limits 0 0 1 9
-
-abbrev pub accuracyLimits : Limits
-accuracyLimits = limits 0 1 1 9
-
--- "x, y whole, 1-9999 (7)"
-abbrev pub spacingLimits : Limits
-spacingLimits = limits billion (9999 * billion) billion 7
-
 -- the z spacing by the vertical unit: in tenths of a foot, in hundredths of a metre, up to 1 (7)
 abbrev pub heightLimits : ℕ → Limits
 heightLimits vertical = cond (eqb vertical 1) (limits (10 ^ 8) billion (10 ^ 8) 7) (limits (10 ^ 7) billion (10 ^ 7) 7)
 
--- m is 1 (9); n is 1-2048 (7)
-abbrev pub rankLimits : Limits
-rankLimits = limits 1 1 1 9
+pub data Name : Type 0 where
+  level : Name
+  pattern : Name
+  system : Name
+  zone : Name
+  ground : Name
+  vertical : Name
+  sides : Name
+  angle : Name
+  accuracy : Name
+  spacing : Name
+  height : Name
+  rank : Name
+  profiles : Name
 
-abbrev pub profilesLimits : Limits
-profilesLimits = limits 1 2048 1 7
+-- by the system and the vertical unit; x and y spacing whole, 1-9999
+abbrev pub limitsOf : Name → ℕ → ℕ → Limits
+limitsOf level s v = limits 1 3 1 9
+limitsOf pattern s v = limits 1 1 1 9
+limitsOf system s v = limits 0 2 1 9
+limitsOf zone s v = zoneLimits s
+limitsOf ground s v = groundLimits s
+limitsOf vertical s v = limits 1 2 1 9
+limitsOf sides s v = limits 4 4 1 9
+limitsOf angle s v = limits 0 0 1 9
+limitsOf accuracy s v = limits 0 1 1 9
+limitsOf spacing s v = limits billion (9999 * billion) billion 7
+limitsOf height s v = heightLimits v
+limitsOf rank s v = limits 1 1 1 9
+limitsOf profiles s v = limits 1 2048 1 7
 
--- ---- their names, as the table of record A and the code use them
+-- the code numbers the names from 0, in this order; what is past them has limits that nothing keeps but 0
+abbrev pub names : List Name
+names =
+    level ∷ pattern ∷ system ∷ zone ∷ ground ∷ vertical ∷ sides ∷ angle ∷ accuracy ∷ spacing ∷ height ∷ rank ∷ profiles ∷ []
 
-abbrev pub level : ℕ
-level = 0
-
-abbrev pub pattern : ℕ
-pattern = 1
-
-abbrev pub system : ℕ
-system = 2
-
-abbrev pub zone : ℕ
-zone = 3
-
-abbrev pub ground : ℕ
-ground = 4
-
-abbrev pub vertical : ℕ
-vertical = 5
-
-abbrev pub sides : ℕ
-sides = 6
-
-abbrev pub angle : ℕ
-angle = 7
-
-abbrev pub accuracy : ℕ
-accuracy = 8
-
-abbrev pub spacing : ℕ
-spacing = 9
-
-abbrev pub height : ℕ
-height = 10
-
-abbrev pub rank : ℕ
-rank = 11
-
-abbrev pub profiles : ℕ
-profiles = 12
-
-abbrev pub noLimits : Limits
-noLimits = limits 0 0 0 0
-
--- those that go by no other field, in the order of their names
-abbrev pub fixedLimits : List Limits
-fixedLimits =
-    levelLimits
-    ∷ patternLimits
-    ∷ systemLimits
-    ∷ noLimits
-    ∷ noLimits
-    ∷ verticalLimits
-    ∷ sidesLimits
-    ∷ angleLimits
-    ∷ accuracyLimits
-    ∷ spacingLimits
-    ∷ noLimits
-    ∷ rankLimits
-    ∷ profilesLimits
-    ∷ []
-
--- the limits of a name, by the system and the vertical unit
-abbrev pub limitsOf : ℕ → ℕ → ℕ → Limits
-limitsOf name s v =
-    cond (eqb name 3) (zoneLimits s)
-    (cond (eqb name 4) (groundLimits s) (cond (eqb name 10) (heightLimits v) (getD fixedLimits name noLimits)))
+abbrev pub limitsAt : ℕ → ℕ → ℕ → Limits
+limitsAt n s v = getD (map (λ name. limitsOf name s v) names) n (limits 0 0 0 0)
 
 -- ---- the header of a block
 
@@ -166,7 +103,7 @@ headerOf block =
 -- ---- what a header obeys
 
 -- a number of the header stands in the limits of its name
-abbrev pub stands : ℕ → Header → ℕ → Bool
+abbrev pub stands : Name → Header → ℕ → Bool
 stands name h v = inRange (limitsOf name (h .system) (h .vertical)) v
 
 abbrev pub fieldsObey : Header → Bool

@@ -9,8 +9,8 @@ use frame::Header;
 ghost use mathlib.Core.Path.{_≡_};
 ghost use Prim.Native.Nat.{_<_};
 ghost use lib.ListN.{getD};
-ghost use Rattle.heading.specs.Heading.{zoneLimits, groundLimits, heightLimits, fixedLimits, noLimits, limitsOf, stands, isRealNumber, cornerReal, fieldsObey, realsObey, headerObeys, zeroCorner, zeroHeader};
-ghost use Rattle.heading.specs.Steps.{spacingsObey};
+ghost use Rattle.heading.specs.Heading.{zoneLimits, groundLimits, heightLimits, limitsAt, isRealNumber, cornerReal, fieldsObey, realsObey, headerObeys, zeroCorner, zeroHeader};
+ghost use Rattle.heading.specs.Steps.{spacingsObey, fixedLimits, noLimits, standsAt};
 
 // The names of record A's limits, in the order of the tables below.
 pub const LEVEL: usize = 0;
@@ -95,7 +95,7 @@ fn fixed_limits(name: usize) -> Limits
 
 // The limits of a name, by the system and the vertical unit; a name that is none has limits that nothing keeps but 0.
 pub fn named_limits(name: usize, system: u64, vertical: u64) -> Limits
-    ensures { λ r. ⌜ r ≡ limitsOf name system vertical ⌝ }
+    ensures { λ r. ⌜ r ≡ limitsAt name system vertical ⌝ }
 {
     if name == ZONE {
         return zone_limits(system);
@@ -114,7 +114,7 @@ pub fn named_limits(name: usize, system: u64, vertical: u64) -> Limits
 
 // A number of the header stands in the limits of its name.
 fn stands_in(name: usize, h: Header, v: u64) -> bool
-    ensures { λ r. ⌜ r ≡ stands name h v ⌝ }
+    ensures { λ r. ⌜ r ≡ standsAt name h v ⌝ }
 {
     field::in_range(named_limits(name, h.system, h.vertical), v)
 }

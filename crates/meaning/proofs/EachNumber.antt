@@ -22,7 +22,8 @@ use Rattle.number.specs.Grammar.{IntegerMeans, RealMeans}
 use Rattle.number.proofs.Grammar.{integer-means, real-means}
 use Rattle.field.specs.Field.{stretch, restFault, limits, inRange, inLimits, ranged, wholeAt, Judged, firstOf}
 use Rattle.field.specs.declared.Limits.{Limits}
-use Rattle.heading.specs.Heading.{level, system, zone, ground, vertical, accuracy, spacing, height as tall, profiles, limitsOf, headerOf}
+use Rattle.heading.specs.Heading.{Name, limitsOf, headerOf}
+use Rattle.heading.specs.Heading.Name.{level, system, zone, ground, vertical, accuracy, spacing, height as tall, profiles}
 use Rattle.heading.proofs.LimitKinds.{limits-kind}
 use Rattle.sheet.specs.RecordA.{fields, firstFault}
 use Rattle.sheet.proofs.HeaderA.{field-fine}
@@ -220,10 +221,10 @@ fixed-says v kind s n z =
 -- ---- record A
 
 module _ (block : List ℕ) (fine : firstFault block fields .kind ≡ 0) where
-  abbrev by : ℕ → Limits
+  abbrev by : Name → Limits
   by name = limitsOf name (wholeAt 157 block) (wholeAt 535 block)
 
-  named : (name : ℕ) → (limitsOf name 0 0 .kind ≡ 0 → ⊥) → by name .kind ≡ 0 → ⊥
+  named : (name : Name) → (limitsOf name 0 0 .kind ≡ 0 → ⊥) → by name .kind ≡ 0 → ⊥
   named name n z = n (sym (limits-kind name (wholeAt 157 block) (wholeAt 535 block)) ∙ z)
 
   pub header-means : AllMean block (headerNumbers (headerOf block))

@@ -10,6 +10,7 @@ use lib.IntN.{pos, natAbs}
 use lib.Signed.{ltZ}
 use lib.ListN.{length}
 use native.Mathlib.Omega.{arith}
+use Rattle.laws.specs.Lists.{joined}
 use Rattle.laws.specs.Sign.{_and_, isZero, implies}
 use Rattle.laws.proofs.Tests.{by-test}
 use Rattle.laws.proofs.Tables.{all}
@@ -17,7 +18,7 @@ use Rattle.number.specs.declared.Reading.{Reading}
 use Rattle.number.specs.Integer.{integer}
 use Rattle.number.specs.Real.{real}
 use Rattle.field.specs.Field.{fault, limits, stretch, wholeAt, realAt, restFault}
-use Rattle.field.specs.Rules.{Clause, KeepsAll, FirstBroken, clause, joined, integerForms, realRules, blankRules}
+use Rattle.field.specs.Rules.{Clause, KeepsAll, FirstBroken, clause, integerForms, realRules, blankRules}
 use Rattle.field.proofs.Rules.{brokenOr, named, first-append, broken-named, fault-first, fault-exactly}
 use Rattle.field.proofs.FieldRules.{owned, Says, own-says, form-says, integer-field, real-field, Told, told-first, told-all}
 use Rattle.field.proofs.FieldRules.Told.{end, next}

@@ -4,9 +4,10 @@ use mathlib.Core.List.{List, [], _∷_, _++_}
 use Prim.Native.Nat.{ℕ, _*_, _%_, _^_}
 use lib.Dec.{eqb, leb}
 use lib.IntN.{natAbs}
+use Rattle.laws.specs.Lists.{joined}
 use Rattle.laws.specs.Sign.{_and_}
 use Rattle.field.specs.Field.{limits, realAt}
-use Rattle.field.specs.Rules.{Clause, clause, joined, lengthRules, integerIn, realRules}
+use Rattle.field.specs.Rules.{Clause, clause, lengthRules, integerIn, realRules}
 
 -- a datum is a real; it is whole hundredths, of 10,000,000 billionths each, and its magnitude at most 10,000 (7)
 abbrev pub datumRules : ℕ → List Clause

@@ -6,10 +6,11 @@ use Prim.Native.Nat.{ℕ}
 use lib.Dec.{eqb}
 use lib.IntN.{pos}
 use lib.Signed.{ltZ}
+use Rattle.laws.specs.Lists.{joined}
 use Rattle.laws.specs.Sign.{isZero, implies}
 use Rattle.number.specs.Integer.{integer}
 use Rattle.field.specs.Field.{limits, stretch, wholeAt}
-use Rattle.field.specs.Rules.{Clause, clause, joined, lengthRules, integerForms, integerIn, blankRules}
+use Rattle.field.specs.Rules.{Clause, clause, lengthRules, integerForms, integerIn, blankRules}
 
 -- an error or a count, by the byte of its code: an integer; not below zero (7); then zero where the code is 0 (9)
 abbrev pub errorRules : ℕ → ℕ → List Clause

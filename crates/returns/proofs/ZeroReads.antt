@@ -21,25 +21,8 @@ use Rattle.field.specs.Field.{stretch, inRange, ranged, wholeAt}
 use Rattle.field.specs.declared.Limits.{Limits}
 use Rattle.frame.specs.declared.Header.{Header}
 use Rattle.frame.specs.Frame.{columnsOf, rowsOf, oneTo2048, wholeFault}
-use Rattle.heading.specs.Heading.{
-  levelLimits,
-  patternLimits,
-  systemLimits,
-  zoneLimits,
-  groundLimits,
-  verticalLimits,
-  sidesLimits,
-  angleLimits,
-  accuracyLimits,
-  spacingLimits,
-  heightLimits,
-  rankLimits,
-  profilesLimits,
-  fieldsObey,
-  headerObeys,
-  headerOf,
-}
-use Rattle.heading.proofs.HeadingFacts.{Ranged, Heading, header-facts}
+use Rattle.heading.specs.Heading.{zoneLimits, groundLimits, heightLimits, fieldsObey, headerObeys, headerOf}
+use Rattle.heading.proofs.HeadingFacts.{Ranged, Heading, header-facts, levelLimits, patternLimits, systemLimits, verticalLimits, sidesLimits, angleLimits, accuracyLimits, spacingLimits, rankLimits, profilesLimits}
 use Rattle.sheet.specs.RecordA.{Row, judgeRow, firstFault, recordA, row, fields, judge, faultOf}
 use Rattle.sheet.specs.declared.Checked.the-variants.{Sheet}
 use Rattle.sheet.specs.RecordA.Rule.{words, form}

@@ -17,7 +17,8 @@ use Rattle.field.specs.Field.{ranged, stretch, wholeAt}
 use Rattle.field.specs.declared.Fault.{Fault}
 use Rattle.field.proofs.Ranges.{ranged-value}
 use Rattle.frame.specs.Frame.{wholeFault}
-use Rattle.heading.specs.Heading.{level, system, zone, ground, vertical, accuracy, spacing, height, profiles, limitsOf, spacingAt, headerOf}
+use Rattle.heading.specs.Heading.{Name, limitsOf, spacingAt, headerOf}
+use Rattle.heading.specs.Heading.Name.{level, system, zone, ground, vertical, accuracy, spacing, height, profiles}
 use Rattle.heading.proofs.LimitKinds.{limits-kind}
 use Rattle.sheet.specs.RecordA.{Row, judgeRow, firstFault, row, fields, recordA}
 use Rattle.sheet.specs.RecordA.Rule.{words}
@@ -47,7 +48,7 @@ field-fine block z first h = rows-fine block fields (row 0 0 words) z (placeOf f
 module _ (block : List ℕ) (values : List ℤ) (z : firstFault block fields .kind ≡ 0)
     (read : (i : ℕ) → i < 41 → getD values i (pos 0) ≡ judgeRow block (rowAt i) .value) where
   -- a number in the limits of a name
-  number-is : (first : ℕ) (h : placeOf first < 41) (name : ℕ) (r : Reading)
+  number-is : (first : ℕ) (h : placeOf first < 41) (name : Name) (r : Reading)
       → judgeRow block (rowFrom first) ≡ ranged (limitsOf name (wholeAt 157 block) (wholeAt 535 block)) r → (kindOf name ≡ 0 → ⊥)
       → numberFrom values first ≡ notNegative (r .value)
   number-is first h name r e n =
@@ -58,13 +59,13 @@ module _ (block : List ℕ) (values : List ℤ) (z : firstFault block fields .ki
       ∙ ap (λ (x : Reading). x .value) e
       ∙ ranged-value l r (λ q. n (sym k ∙ q)) (ap (λ (x : Reading). x .kind) (sym e) ∙ field-fine block z first h))
 
-  integer-is : (first : ℕ) (h : placeOf first < 41) (name : ℕ)
+  integer-is : (first : ℕ) (h : placeOf first < 41) (name : Name)
       → judgeRow block (rowFrom first)
       ≡ ranged (limitsOf name (wholeAt 157 block) (wholeAt 535 block)) (integer (stretch first 6 block)) → (kindOf name ≡ 0 → ⊥)
       → numberFrom values first ≡ wholeAt first block
   integer-is first h name = number-is first h name (integer (stretch first 6 block))
 
-  spacing-is : (first : ℕ) (h : placeOf first < 41) (name : ℕ)
+  spacing-is : (first : ℕ) (h : placeOf first < 41) (name : Name)
       → judgeRow block (rowFrom first)
       ≡ ranged (limitsOf name (wholeAt 157 block) (wholeAt 535 block)) (real (stretch first 12 block)) → (kindOf name ≡ 0 → ⊥)
       → numberFrom values first ≡ spacingAt first block

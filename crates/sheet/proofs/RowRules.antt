@@ -15,16 +15,16 @@ use Rattle.field.specs.declared.Limits.{Limits}
 use Rattle.field.specs.Rules.{Clause, textRules, integerBy, realForms, realRules, realBy}
 use Rattle.field.proofs.Rules.{nonzero}
 use Rattle.field.proofs.FieldRules.{Says, integer-says, real-says, stepped-says}
-use Rattle.heading.specs.Heading.{limitsOf}
+use Rattle.heading.specs.Heading.{Name, limitsOf}
 use Rattle.heading.proofs.LimitKinds.{limits-kind}
 use Rattle.sheet.specs.RecordA.{Rule, Row, judge}
 use Rattle.sheet.specs.RecordA.Rule.{words, form, free, whole, stepped}
 
 -- the kind of a name's refusal, which is one whatever its limits go by
-abbrev pub kindOf : ℕ → ℕ
+abbrev pub kindOf : Name → ℕ
 kindOf name = limitsOf name 0 0 .kind
 
-abbrev limitsIn : ℕ → List ℕ → Limits
+abbrev limitsIn : Name → List ℕ → Limits
 limitsIn name b = limitsOf name (wholeAt 157 b) (wholeAt 535 b)
 
 abbrev pub clausesOf : ℕ → ℕ → Rule → List Clause

@@ -17,24 +17,8 @@ use Rattle.field.specs.Field.{stretch, inRange, ranged, wholeAt, realAt}
 use Rattle.field.proofs.Ranges.{range-read}
 use Rattle.frame.specs.Frame.{wholeFault}
 use Rattle.frame.specs.declared.Header.{Header}
-use Rattle.heading.specs.Heading.{
-  level,
-  system,
-  zone,
-  ground,
-  vertical,
-  accuracy,
-  spacing,
-  height,
-  profiles,
-  limitsOf,
-  spacingAt,
-  headerOf,
-  isRealNumber,
-  fieldsObey,
-  realsObey,
-  headerObeys,
-}
+use Rattle.heading.specs.Heading.{Name, limitsOf, spacingAt, headerOf, isRealNumber, fieldsObey, realsObey, headerObeys}
+use Rattle.heading.specs.Heading.Name.{level, system, zone, ground, vertical, accuracy, spacing, height, profiles}
 use Rattle.heading.proofs.LimitKinds.{limits-kind}
 use Rattle.sheet.specs.RecordA.{fields, firstFault, recordA}
 use Rattle.sheet.specs.declared.Checked.the-variants.{Sheet}
@@ -46,17 +30,17 @@ pub real-number : (z : ℤ) → Limited z → isRealNumber z ≡ true
 real-number z l = and-both (lt-ltb (natAbs z) (10 ^ 18) (l .0)) (l .1)
 
 module _ (block : List ℕ) (fine : firstFault block fields .kind ≡ 0) where
-  stands-in : (name : ℕ) (r : Reading) → ranged (limitsOf name (wholeAt 157 block) (wholeAt 535 block)) r .kind ≡ 0
+  stands-in : (name : Name) (r : Reading) → ranged (limitsOf name (wholeAt 157 block) (wholeAt 535 block)) r .kind ≡ 0
       → (kindOf name ≡ 0 → ⊥) → inRange (limitsOf name (wholeAt 157 block) (wholeAt 535 block)) (notNegative (r .value)) ≡ true
   stands-in name r z n =
       range-read (limitsOf name (wholeAt 157 block) (wholeAt 535 block)) r
       (λ q. n (sym (limits-kind name (wholeAt 157 block) (wholeAt 535 block)) ∙ q)) z
 
-  integer-in : (name first : ℕ) → ranged (limitsOf name (wholeAt 157 block) (wholeAt 535 block)) (integer (stretch first 6 block)) .kind ≡ 0
+  integer-in : (name : Name) (first : ℕ) → ranged (limitsOf name (wholeAt 157 block) (wholeAt 535 block)) (integer (stretch first 6 block)) .kind ≡ 0
       → (kindOf name ≡ 0 → ⊥) → inRange (limitsOf name (wholeAt 157 block) (wholeAt 535 block)) (wholeAt first block) ≡ true
   integer-in name first = stands-in name (integer (stretch first 6 block))
 
-  spacing-in : (name first : ℕ) → ranged (limitsOf name (wholeAt 157 block) (wholeAt 535 block)) (real (stretch first 12 block)) .kind ≡ 0
+  spacing-in : (name : Name) (first : ℕ) → ranged (limitsOf name (wholeAt 157 block) (wholeAt 535 block)) (real (stretch first 12 block)) .kind ≡ 0
       → (kindOf name ≡ 0 → ⊥) → inRange (limitsOf name (wholeAt 157 block) (wholeAt 535 block)) (spacingAt first block) ≡ true
   spacing-in name first = stands-in name (real (stretch first 12 block))
 

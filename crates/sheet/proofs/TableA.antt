@@ -15,10 +15,13 @@ use borrow.Author.Tests.{eq-eqb, ne-eqb}
 use Rattle.laws.specs.Sign.{_and_}
 use Rattle.laws.proofs.Tables.{all-at, and-left, and-right}
 use Rattle.number.specs.declared.Reading.{Reading}
-use Rattle.field.specs.Field.{wholeAt, stretch, fault, faultOr}
+use Rattle.number.specs.Integer.{integer}
+use Rattle.number.specs.Real.{real}
+use Rattle.field.specs.Field.{ranged, wholeAt, stretch, fault, faultOr}
 use Rattle.field.specs.declared.Fault.{Fault}
 use Rattle.field.specs.declared.Limits.{Limits}
-use Rattle.heading.specs.Heading.{limitsOf}
+use Rattle.heading.specs.Heading.{limitsAt}
+use Rattle.heading.proofs.LimitKinds.{number-limits}
 use Rattle.sheet.specs.RecordA.{Row, row, fields, Rule, judge, judgeRow, firstFault}
 use Rattle.sheet.specs.RecordA.Rule.{words, form, free, whole, stepped}
 use Rattle.sheet.specs.RecordASteps.{rowAt, codeOf, nameOf, judgeBy, Begun, placeIn, placeOf}
@@ -38,20 +41,23 @@ row-inside i h =
     let t = all-at inside fields (row 0 0 words) tt i h in
     (leb→le 1 _ (and-left (leb 1 (rowAt i .first)) _ t), leb→le _ 1024 (and-right (leb 1 (rowAt i .first)) _ t))
 
-pub judge-by : (r : Rule) (s v : ℕ) (f : List ℕ) → judgeBy (codeOf r) (limitsOf (nameOf r) s v) f ≡ judge r s v f
+pub judge-by : (r : Rule) (s v : ℕ) (f : List ℕ) → judgeBy (codeOf r) (limitsAt (nameOf r) s v) f ≡ judge r s v f
 judge-by words s v f = refl
 judge-by form s v f = refl
 judge-by free s v f = refl
-judge-by (whole name) s v f = refl
-judge-by (stepped name) s v f = refl
+judge-by (whole name) s v f = ap (λ (l : Limits). ranged l (integer f)) (number-limits name s v)
+judge-by (stepped name) s v f = ap (λ (l : Limits). ranged l (real f)) (number-limits name s v)
 
 pub judge-at-is : (block : List ℕ) (i system vertical first width code name : ℕ) (l : Limits) → Begun block system vertical
     → first ≡ rowAt i .first → width ≡ rowAt i .width → code ≡ codeOf (rowAt i .rule) → name ≡ nameOf (rowAt i .rule)
-    → l ≡ limitsOf name system vertical
+    → l ≡ limitsAt name system vertical
     → judgeBy code l (take (first - 1 + width - (first - 1)) (drop (first - 1) block)) ≡ judgeRow block (rowAt i)
 judge-at-is block i system vertical first width code name l b p q r s u =
     let w : first - 1 + width - (first - 1) ≡ width = omega arith in
-    rw (w, u, s, r, q, p, b .system-is, b .vertical-is)
+    let m : l ≡ limitsAt (nameOf (rowAt i .rule)) (wholeAt 157 block) (wholeAt 535 block) =
+    u ∙ (λ j. limitsAt (s j) (b .system-is j) (b .vertical-is j))
+    in
+    rw (w, m, r, q, p)
     (judge-by (rowAt i .rule) (wholeAt 157 block) (wholeAt 535 block) (stretch (rowAt i .first) (rowAt i .width) block))
 
 -- ---- the walk, row by row

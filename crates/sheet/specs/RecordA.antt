@@ -12,23 +12,8 @@ use Rattle.number.specs.declared.Reading.{Reading}
 use Rattle.field.specs.Field.{isWord, stretch, wholeAt, ranged, fault, faultOr}
 use Rattle.field.specs.declared.Fault.{Fault}
 use Rattle.frame.specs.Frame.{wholeFault}
-use Rattle.heading.specs.Heading.{
-  level,
-  pattern,
-  system,
-  zone,
-  ground,
-  vertical,
-  sides,
-  angle,
-  accuracy,
-  spacing,
-  height,
-  rank,
-  profiles,
-  limitsOf,
-  headerOf,
-}
+use Rattle.heading.specs.Heading.{Name, limitsOf, headerOf}
+use Rattle.heading.specs.Heading.Name.{level, pattern, system, zone, ground, vertical, sides, angle, accuracy, spacing, height, rank, profiles}
 use Rattle.sheet.specs.declared.Checked.{Checked}
 use Rattle.sheet.specs.declared.Checked.the-variants.{Sheet, Refused}
 
@@ -39,8 +24,8 @@ pub data Rule : Type 0 where
   words : Rule
   form : Rule
   free : Rule
-  whole : ℕ → Rule
-  stepped : ℕ → Rule
+  whole : Name → Rule
+  stepped : Name → Rule
 
 -- a stretch of the block: its first byte, counted from 1, its width and its rule
 pub record Row : Type 0 where

@@ -16,6 +16,7 @@ use Rattle.field.specs.declared.Limits.{Limits}
 use Rattle.field.specs.declared.Fault.{Fault}
 use Rattle.frame.specs.declared.Corner.{Corner}
 use Rattle.frame.specs.declared.Header.{Header}
+use Rattle.heading.specs.Steps.{numberOf}
 use Rattle.sheet.specs.RecordA.{Row, row, fields, Rule, judgeRow, firstFault}
 use Rattle.sheet.specs.RecordA.Rule.{words, form, free, whole, stepped}
 
@@ -31,13 +32,13 @@ codeOf free = 2
 codeOf (whole name) = 3
 codeOf (stepped name) = 4
 
--- the name of its limits; 13, which names none, where it has none
+-- the number of the name of its limits; 13, which names none, where it has none
 abbrev pub nameOf : Rule → ℕ
 nameOf words = 13
 nameOf form = 13
 nameOf free = 13
-nameOf (whole name) = name
-nameOf (stepped name) = name
+nameOf (whole name) = numberOf name
+nameOf (stepped name) = numberOf name
 
 -- a field judged by its code and limits
 abbrev pub judgeBy : ℕ → Limits → List ℕ → Reading

@@ -5,10 +5,11 @@ use mathlib.Core.Bool.{cond}
 use mathlib.Core.List.{List, [], _∷_}
 use Prim.Native.Nat.{ℕ, _*_, _^_}
 use lib.Dec.{eqb, leb}
+use Rattle.laws.specs.Lists.{joined}
 use Rattle.laws.specs.Sign.{_and_}
 use Rattle.field.specs.declared.Limits.{Limits}
 use Rattle.field.specs.Field.{limits, wholeAt}
-use Rattle.field.specs.Rules.{Clause, clause, joined, textRules, integerIn, integerBy, realForms, realRules, realIn, realBy}
+use Rattle.field.specs.Rules.{Clause, clause, textRules, integerIn, integerBy, realForms, realRules, realIn, realBy}
 use Rattle.frame.specs.Frame.{cornersInOrder, columnsOf, rowsOf, oneTo2048}
 use Rattle.heading.specs.Heading.{headerOf}
 

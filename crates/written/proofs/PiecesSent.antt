@@ -18,8 +18,8 @@ use Rattle.field.specs.declared.Limits.{Limits}
 use Rattle.frame.specs.declared.Header.{Header}
 use Rattle.frame.specs.declared.Corner.{Corner}
 use Rattle.frame.specs.Frame.{columnsOf}
-use Rattle.heading.specs.Heading.{headerObeys, isRealNumber, cornerReal, spacingLimits}
-use Rattle.heading.proofs.HeadingFacts.{header-facts, Ranged}
+use Rattle.heading.specs.Heading.{headerObeys, isRealNumber, cornerReal}
+use Rattle.heading.proofs.HeadingFacts.{header-facts, Ranged, spacingLimits}
 use Rattle.ground.specs.Extremes.{leastStated, greatestStated}
 use Rattle.spell.specs.Spell.{integerFits, realFits}
 use Rattle.spell.proofs.Fits.{integer-length, real-length, integer-fits, thousands-fit, fits-real, whole-spacing-fits, fine-spacing-fits}

@@ -18,8 +18,8 @@ use Rattle.lattice.proofs.Cases.{real-small, small-real}
 use Rattle.lattice.proofs.LatticeLaws.{lattice-is, on-place, first-real}
 use Rattle.frame.specs.Frame.{columnsOf, rowsOf, west, east, south, north, cellsOf}
 use Rattle.frame.specs.declared.Header.{Header}
-use Rattle.heading.specs.Heading.{spacingLimits, headerObeys}
-use Rattle.heading.proofs.HeadingFacts.{Ranged, Heading, header-facts}
+use Rattle.heading.specs.Heading.{headerObeys}
+use Rattle.heading.proofs.HeadingFacts.{Ranged, Heading, header-facts, spacingLimits}
 use Rattle.ground.specs.Posts.{void}
 use Rattle.ground.specs.Extremes.{leastOf, greatestOf, filledOnly, leastStated, greatestStated}
 use Rattle.spell.specs.Spell.{realFits}

@@ -1,6 +1,6 @@
 -- The table's four columns, computed.
 use lib.ListN.{List·getD-map}
-use Rattle.heading.specs.Heading.{fixedLimits, noLimits}
+use Rattle.heading.specs.Steps.{fixedLimits, noLimits}
 use borrow.Author.Needs.{needs}
 use Rattle.heading.proofs.fixed_limits.Statement.{statement}
 use Rattle.heading.proofs.fixed_limits.Tie as tie
