@@ -1,4 +1,15 @@
 -- The joined text of a sheet: blocks, profiles, posts, and the cell that each post stands for. Nothing here knows a session or a step.
+--
+-- A small sheet, worked: two profiles, of 317 posts and of 2.
+--
+--     block b of the text     0          1           2             3           4
+--     what it holds           record A   profile 0   profile 0     profile 0   profile 1
+--     block k of its profile             0           1             2           0
+--     posts i of its profile             0 to 145    146 to 315    316         0 to 1
+--     from byte                          145         1             1           145
+--
+-- Four counters, each from 0: b the blocks of the text, j its profiles, k the blocks of one profile, i its posts. Profile 0 starts at block
+-- 1, profile 1 at block 4 (`startOf`); post 200 of profile 0 stands in its block 1 (`postBlock`), block 2 of the text, at byte 1 + 6 × 54 = 325 (`postByte`).
 use mathlib.Core.List.{List, [], _∷_, map}
 use Prim.Native.Nat.{ℕ, _*_, _/_, zero, suc, _+_, _-_, min, _%_}
 use mathlib.Core.Bool.{cond, Bool}
