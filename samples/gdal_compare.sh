@@ -1,13 +1,14 @@
 #!/usr/bin/env bash
-# Holds the cells of every taken sample against GDAL as a reader: samples/gdal_compare.sh [REPLAY]
-# REPLAY answers a script of deliveries: ours unless told otherwise, or the second program's own_replay.
+# Holds the cells of every taken sample against GDAL as a reader, and those of the sheet that the writer makes of them: samples/gdal_compare.sh [REPLAY [SENDER]]
+# REPLAY answers a script of deliveries, SENDER writes a sheet: ours unless told otherwise, or the second program's own_replay and own_sender.
 # Needs gdal_translate (Debian package gdal-bin). Ends with status 1 if anything differs.
 set -euo pipefail
 export LC_ALL=C GDAL_PAM_ENABLED=NO
 here=$(cd "$(dirname "$0")" && pwd)
 replay=${1:-$here/../target/x86/replay} # .ci/run leaves a command there that runs on either processor
 command -v gdal_translate >/dev/null || { echo "gdal_translate is missing: apt-get install gdal-bin"; exit 1; }
-[ -x "$replay" ] || { echo "no program $replay"; exit 1; }
+sender=${2:-$here/../target/x86/sender}
+for program in "$replay" "$sender"; do [ -x "$program" ] || { echo "no program $program"; exit 1; }; done
 work=$(mktemp -d)
 trap 'rm -rf "$work"' EXIT
 
@@ -19,6 +20,7 @@ script() { # SHEET BLOCKS CELLS: every block delivered once, in order
         dd if="$1" bs=1024 skip="$k" count=1 status=none
     done
 }
+zeros() { for _ in {1..15}; do printf '%24s' 0.0; done; } # the fifteen reals, each right in its field
 # GDAL's cells in our order: by x, then by y from the south. Its void is -32767; ours are hundredths.
 gdal_places() { gdal_translate -q -of XYZ "$1" /vsistdout/ | sort -k1,1g -k2,2g; }
 hundredths='{ print $3 == -32767 ? "-2147483648" : sprintf("%.0f", $3 * 100) }'
@@ -65,6 +67,17 @@ for sheet in "$here"/*.dem "$here"/*.DEM; do
         differ=1
     else
         say "$name: $cells cells agree, $(grep -c '^-2147483648$' "$work/ours" || true) of them void"
+        # Sent again, with the same record A as a template: GDAL reads the cells that were sent. The fifteen reals go out as they stand; blank, as
+        # here, GDAL cannot run the zone's field into the first of them (docs/MANUAL.md, "Sending a sheet").
+        { head -c 168 "$sheet"; zeros; tail -c +529 "$sheet" | head -c 496; while read -r cell; do four "$((cell & 0xffffffff))"; done <"$work/ours"; } |
+            "$sender" >"$work/sent.dem"
+        gdal_places "$work/sent.dem" | awk "$hundredths" >"$work/back"
+        if cmp -s "$work/back" "$work/gdal"; then
+            echo "$name: sent again, read by GDAL: the same cells"
+        else
+            say "$name: sent again, GDAL reads other cells: $(diff "$work/back" "$work/gdal" | sed -n '1p')"
+            differ=1
+        fi
     fi
 done
 [ "$compared" -gt 0 ] || { echo "nothing compared"; exit 1; }

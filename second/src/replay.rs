@@ -1,4 +1,4 @@
-//! The interface of `replay` (DESIGN, "Programs' interfaces"): scripts of deliveries,
+//! The interface of `replay` (docs/MANUAL.md, "Looking at a recorded line"): scripts of deliveries,
 //! and the lines this program's own loader answers to one.
 
 use crate::block::{Record, USUAL_CELLS};

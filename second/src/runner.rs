@@ -14,7 +14,7 @@ const MOST_OUTPUT: u64 = 16_000_000;
 const BETWEEN_PIECES: Duration = Duration::from_millis(3);
 
 /// The standard output of a run that ended with status 0 and wrote no errors, which is
-/// what DESIGN asks of every program.
+/// what is asked of every program.
 pub fn run(program: &str, input: &[u8]) -> Result<Vec<u8>, String> {
     run_in_pieces(program, &[input])
 }

@@ -1,4 +1,4 @@
-//! The interface of `sender` (DESIGN, "Programs' interfaces"): a template and cells in,
+//! The interface of `sender` (docs/MANUAL.md, "Sending a sheet"): a template and cells in,
 //! a sheet's blocks or one line out.
 
 use crate::block::{BLOCK_LENGTH, USUAL_CELLS};

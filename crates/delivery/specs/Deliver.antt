@@ -44,7 +44,7 @@ lend grid = record { grid = grid }
 abbrev pub roomOf : Lent → Room
 roomOf lent = record { cells = length (lent .grid) }
 
--- "12 grid too short"
+-- kind 12: the grid lent is too short
 abbrev pub tooShort : Room → Header → Bool
 tooShort room h = ltb (room .cells) (cellsOf h)
 
@@ -254,7 +254,7 @@ later s number block =
     (cond (ltb (s .closed) (s .header .profiles)) (opening s number block (recordB (s .closed + 1) block))
     (unless (recordC block) number (fills (finishedSession s) 0 [])))
 
--- "12 grid too short (block 0)" comes last
+-- for block 0 kind 12 comes last
 abbrev pub beginning : Room → Checked → Verdict
 beginning room (NoSheet kind byte) = wrong kind 0 byte
 beginning room (Sheet h) = cond (tooShort room h) (wrong 12 0 0) (begins h)

@@ -38,7 +38,7 @@ abbrev pub inLimits : Limits → ℤ → Bool
 inLimits l (pos v) = inRange l v
 inLimits l (negsuc v) = false
 
--- "Inside one field the reading's kinds come first, then the field's own rule."
+-- inside one field the kinds of its reading come before its own rule
 abbrev pub ranged : Limits → Reading → Reading
 ranged l r = cond (eqb (r .kind) 0) (cond (inLimits l (r .value)) r (refused (l .kind))) r
 

@@ -9,7 +9,7 @@ use Rattle.session.specs.Session.{fresh}
 use Rattle.delivery.specs.declared.Answer.{Answer}
 use Rattle.delivery.specs.declared.Delivered.{Delivered}
 use Rattle.delivery.specs.Deliver.{Lent, lend, deliverOf, lentAfter}
-use Rattle.meaning.specs.Deliveries.{Delivery, Call, Promised, Calls, nobody, called, sessionAfter, gridAfter, bytesIf, takenText, deliveries, answers}
+use Rattle.meaning.specs.Deliveries.{Delivery, Call, Promised, Calls, noCall, called, sessionAfter, gridAfter, bytesIf, takenText, deliveries, answers}
 
 pub record Desk : Type 0 where
   pub session : Session
@@ -56,17 +56,17 @@ module _ {s : Session} {lent : Lent} {c : Call} (p : Promised s lent c) where
 
 pub calls-desk : {s : Session} {lent : Lent} {cs : List Call} → Calls s lent cs
     → desk (sessionAfter s cs) (lend (gridAfter (lent .grid) cs)) ≡ afterAll (desk s lent) (deliveries cs)
-calls-desk nobody = refl
+calls-desk noCall = refl
 calls-desk (called {s} {lent} {c} {cs} p rest) = calls-desk rest ∙ ap (λ (k : Desk). afterAll k (deliveries cs)) (call-desk p)
 
 pub calls-text : {s : Session} {lent : Lent} {cs : List Call} → Calls s lent cs → takenText cs ≡ textAfter (desk s lent) (deliveries cs)
-calls-text nobody = refl
+calls-text noCall = refl
 calls-text (called {s} {lent} {c} {cs} p rest) =
     ap₂ (λ (a : Answer) (t : List ℕ). bytesIf a (c .sent .bytes) ++ t) (call-answer p)
     (calls-text rest ∙ ap (λ (k : Desk). textAfter k (deliveries cs)) (call-desk p))
 
 pub calls-answers : {s : Session} {lent : Lent} {cs : List Call} → Calls s lent cs → answers cs ≡ allAnswered (desk s lent) (deliveries cs)
-calls-answers nobody = refl
+calls-answers noCall = refl
 calls-answers (called {s} {lent} {c} {cs} p rest) =
     ap₂ (λ (a : Answer) (l : List Answer). a ∷ l) (call-answer p)
     (calls-answers rest ∙ ap (λ (k : Desk). allAnswered k (deliveries cs)) (call-desk p))
@@ -79,7 +79,7 @@ callsFor k (d ∷ ds) =
     record { sent = d; returned = deliverOf (k .session) (d .number) (d .bytes) (k .lent); left = after k d .lent } ∷ callsFor (after k d) ds
 
 pub calls-kept : (k : Desk) (ds : List Delivery) → Calls (k .session) (k .lent) (callsFor k ds)
-calls-kept k [] = nobody
+calls-kept k [] = noCall
 calls-kept k (d ∷ ds) = called (record { answers = refl; fills = refl }) (calls-kept (after k d) ds)
 
 pub calls-deliver : (k : Desk) (ds : List Delivery) → deliveries (callsFor k ds) ≡ ds

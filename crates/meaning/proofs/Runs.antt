@@ -18,7 +18,7 @@ use Rattle.delivery.specs.Deliver.{Lent, lend, roomOf}
 use Rattle.meaning.specs.Text.{cellsIn}
 use Rattle.meaning.specs.Rules.{Breach, breach, firstBreach, isComplete}
 use Rattle.session.specs.declared.Session.{Session}
-use Rattle.meaning.specs.Deliveries.{Delivery, Due, refusedBy, answerTo, Call, Calls, nobody, called, deliveries, Disturbed, ended, sent, disturbed, bytesIf, twice}
+use Rattle.meaning.specs.Deliveries.{Delivery, Due, refusedBy, answerTo, Call, Calls, noCall, called, deliveries, Disturbed, ended, sent, disturbed, bytesIf, twice}
 use Rattle.meaning.proofs.Desks.{Desk, desk, atFirst, answered, after, afterAll, textAfter, call-desk, call-answer}
 use Rattle.meaning.proofs.LaterVerdict.{complete-breach, all-now, incomplete}
 use Rattle.meaning.proofs.OneDelivery.{Good, Stands, stands-first, stands-next, answer-told, not-taken-nothing}
@@ -219,7 +219,7 @@ twice-once text lent k at (d ∷ ds) =
 
 pub disturbed-same : {s : Session} {lent : Lent} {es : List Call} {ds : List Delivery} → Calls s lent es → Disturbed es ds
     → afterAll (desk s lent) (deliveries es) ≡ afterAll (desk s lent) ds
-disturbed-same nobody ended = refl
+disturbed-same noCall ended = refl
 disturbed-same (called p rest) (sent {c} {es} {ds} more) =
     ap (λ (k : Desk). afterAll k (deliveries es)) (sym (call-desk p))
     ∙ disturbed-same rest more

@@ -52,7 +52,7 @@ pub record Promised (s : Session) (lent : Lent) (c : Call) : Type 0 where
 
 -- calls from a session and what is lent, each handed what the one before it returned and left
 pub data Calls : Session → Lent → List Call → Type 0 where
-  nobody : {s : Session} {lent : Lent} → Calls s lent []
+  noCall : {s : Session} {lent : Lent} → Calls s lent []
   called : {s : Session} {lent : Lent} {c : Call} {cs : List Call} → Promised s lent c → Calls (c .returned .session) (c .left) cs
       → Calls s lent (c ∷ cs)
 

@@ -133,7 +133,7 @@ isComplete text = leb (blocksOfSheet text) (blocksIn text)
 abbrev pub hasBegun : List ℕ → ℕ → Bool
 hasBegun text j = ltb (startOf text j) (blocksIn text)
 
--- "4: sheet complete" for a block behind the last one; else record C's own rules
+-- kind 4 for a block behind the last one; else record C's own rules
 abbrev pub endRules : List ℕ → List Breach
 endRules text =
     rule (leb (blocksIn text) (blocksOfSheet text)) (breach 4 (blocksOfSheet text) 0)

@@ -1,4 +1,4 @@
-// Runs a recorded line of deliveries: DESIGN, "Programs' interfaces", `replay`. Input, one call, output.
+// Runs a recorded line of deliveries: docs/MANUAL.md, "Looking at a recorded line". Input, one call, output.
 mod output;
 
 use libc::STDIN_FILENO;

@@ -1,4 +1,4 @@
--- DESIGN, "Programs' interfaces", `replay`: what the bytes of a script say.
+-- docs/MANUAL.md, "Looking at a recorded line": what the bytes of a script say.
 use mathlib.Core.Bool.{cond}
 use Prim.Native.Nat.{ℕ, _≤_}
 use lib.Dec.{eqb, ltb}

@@ -123,7 +123,7 @@ module _ (template : List ℕ) (h : Header) (grid : List ℤ) where
       ∙ append-brackets (blockZero template h grid) (columnsText h grid n) (columnText h grid n)
       ∙ ap (λ (l : List ℕ). blockZero template h grid ++ l) (sym (joined-more (columnText h grid) n))
 
-  -- "the same bytes as the single calls in order"
+  -- the same bytes as the single calls write, in order
   pub whole-is : wholeText template h grid ≡ joined (map (blockSent template h grid) (below (blockCount h grid)))
   unfolding wholeText
   whole-is = sym (columns-are (columnsOf h) (omega arith))

@@ -30,7 +30,7 @@ columnsText h grid n = joined (map (columnText h grid) (below n))
 unfoldable pub wholeText : List ℕ → Header → List ℤ → List ℕ
 wholeText template h grid = blockZero template h grid ++ columnsText h grid (columnsOf h)
 
--- "a buffer that is not count × 1,024 bytes (1, with number 0)"
+-- a buffer that is not count × 1,024 bytes: 1, with number 0
 abbrev pub roomFault : Header → List ℤ → ℕ → Fault
 roomFault h grid bytes = cond (eqb bytes (1024 * blockCount h grid)) (fault 0 0) (fault 1 0)
 

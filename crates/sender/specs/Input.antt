@@ -1,4 +1,4 @@
--- DESIGN, "Programs' interfaces", `sender`: what the bytes after a template say.
+-- docs/MANUAL.md, "Sending a sheet": what the bytes after a template say.
 use mathlib.Core.List.{List, [], _∷_}
 use Prim.Native.Nat.{ℕ, _*_, _%_, _≤_}
 use lib.IntN.{ℤ}
@@ -11,7 +11,7 @@ use Rattle.words.specs.Words.{cellOf}
 use Rattle.sender.specs.declared.input.Cells.{Cells}
 use Rattle.sender.specs.declared.input.Cells.the-variants.{Count, Bad}
 
--- "then cells (four bytes each ..)": all of them, in their order
+-- the cells, four bytes each: all of them, in their order
 unfoldable pub cellsFrom : List ℕ → List ℤ
 cellsFrom [] = []
 cellsFrom (a ∷ []) = []
@@ -19,7 +19,7 @@ cellsFrom (a ∷ (b ∷ [])) = []
 cellsFrom (a ∷ (b ∷ (c ∷ []))) = []
 cellsFrom (a ∷ (b ∷ (c ∷ (d ∷ rest)))) = cellOf a b c d ∷ cellsFrom rest
 
--- "Cells in other than whole fours, or too many: `bad input`": the bytes are whole fours, and the cells at most 15,000
+-- good input: the bytes are whole fours, and the cells at most 15,000
 abbrev pub goodInput : List ℕ → Bool
 goodInput text = leb (length text) (4 * 15000) and eqb (length text % 4) 0
 

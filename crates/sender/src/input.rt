@@ -23,7 +23,7 @@ pub(crate) fn decode(text: &[u8], grid: &mut [i32])
     }
 }
 
-// "Cells in other than whole fours, or too many" are bad.
+// Cells that are no whole fours, or too many, are bad.
 pub(crate) fn count_cells(text: &[u8]) -> Cells
     ensures { λ r. ⌜ (r ≡ countOf (now (text .entry))) × Fitting (now (text .entry)) r ⌝ }
 {

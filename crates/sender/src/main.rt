@@ -1,4 +1,4 @@
-// Sends a sheet made of a template and cells: DESIGN, "Programs' interfaces", `sender`. Input, the writer's calls, output.
+// Sends a sheet made of a template and cells: docs/MANUAL.md, "Sending a sheet". Input, the writer's calls, output.
 mod input;
 mod output;
 

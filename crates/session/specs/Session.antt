@@ -115,6 +115,6 @@ complete s =
     not (eqb (s .taken) 0) and eqb (s .closed) (s .header .profiles)
     and cond (eqb (s .header .accuracy) 1) (eqb (s .finished) 1) true
 
--- "After block 0: those, taken 1, all else zero"
+-- after block 0: its header, taken 1, all else zero
 abbrev pub begun : Header → Session
 begun h = unread h 1

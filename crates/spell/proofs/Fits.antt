@@ -60,7 +60,7 @@ module _ (digits width : ℕ) (z : ℤ) where
   real-length letter h =
       justified-length width (decimal digits letter z) (omega (arith, decimal-length digits letter z, real-fits h .room))
 
--- "No written real can need more than 15 digits": what was read can be written
+-- no real that is written needs more than 15 digits: what was read can be written
 pub real-readable : (s : List ℕ) → real s .kind ≡ 0 → realFits 15 24 (real s .value) ≡ true
 real-readable s k =
     let l = real-limits s k in
