@@ -28,7 +28,7 @@ use Rattle.session.specs.declared.Session.{Session}
 use Rattle.session.specs.declared.Profile.{Profile}
 use Rattle.session.proofs.Facts.{facts-begun, Begun, Running, begun-facts}
 use Rattle.session.proofs.Sound.{begun-sound, sound-begun as session-begun, taken-bound, posts-bound}
-use Rattle.ground.specs.Posts.{void, tallyAll, postsFault, blockFault, postsOf}
+use Rattle.ground.specs.Posts.{void, tallyAll, postsFault, postsRestFault, postsOf}
 use Rattle.ground.specs.declared.Tally.{Tally}
 use Rattle.ground.proofs.Tallies.{InOrder, Fair, tally-filled, filled-within}
 use Rattle.ground.proofs.Heights.{Cell, heights-length, heights-cells}
@@ -197,12 +197,12 @@ module _ (s : Session) (column : ℕ) (p : Profile) (hs : List ℤ) (g : Grows s
       }))
 
 -- a block without fault has none among its posts
-posts-fine : (byte n : ℕ) (block : List ℕ) → blockFault byte n block .kind ≡ 0 → postsFault n byte block .kind ≡ 0
+posts-fine : (byte n : ℕ) (block : List ℕ) → postsRestFault byte n block .kind ≡ 0 → postsFault n byte block .kind ≡ 0
 posts-fine byte n block z =
     by-test (eqb (postsFault n byte block .kind) 0) (eqb-true (postsFault n byte block .kind) 0)
     (λ e. absurd (eqb-false (postsFault n byte block .kind) 0 e (rw e at z)))
 
-module _ (s : Session) (f : Begun s) (p : Profile) (byte n : ℕ) (block : List ℕ) (z : blockFault byte n block .kind ≡ 0)
+module _ (s : Session) (f : Begun s) (p : Profile) (byte n : ℕ) (block : List ℕ) (z : postsRestFault byte n block .kind ≡ 0)
     (datum : natAbs (p .datum) ≤ 1000000) where
   many : length (heightsHere s p byte n block) ≡ n
   many = heights-length (zOf (s .header)) (p .datum) (postsOf n byte block) ∙ posts-length n byte block
@@ -220,7 +220,7 @@ module _ (s : Session) (f : Begun s) (p : Profile) (byte n : ℕ) (block : List 
 
 -- the next block of the open profile
 pub further-grows : (s : Session) (block : List ℕ) → Begun s → busy s ≡ true
-    → blockFault 1 (postsHere (s .profile) 170) block .kind ≡ 0
+    → postsRestFault 1 (postsHere (s .profile) 170) block .kind ≡ 0
     → Grows s (s .column) (s .profile) (heightsHere s (s .profile) 1 (postsHere (s .profile) 170) block)
 further-grows s block f b z =
     let p = s .profile in
@@ -259,7 +259,7 @@ further-grows s block f b z =
 -- the first block of a profile
 pub opening-grows : (s : Session) (block : List ℕ) (h : Head) → sound s ≡ true → 1 ≤ s .taken → busy s ≡ false
     → s .closed < s .header .profiles → recordB (s .closed + 1) block ≡ Headed·Profile h
-    → blockFault 145 (min (h .posts) 146) block .kind ≡ 0 → columnFits s (columnPlace s h) ≡ true
+    → postsRestFault 145 (min (h .posts) 146) block .kind ≡ 0 → columnFits s (columnPlace s h) ≡ true
     → rowFits s (h .posts) (rowPlace s h) ≡ true
     → Grows s (firstColumn s h) (opened s h) (heightsHere s (opened s h) 145 (min (h .posts) 146) block)
 opening-grows s block h t due idle below e z c r =
@@ -343,10 +343,10 @@ module _ (s : Session) (t : sound s ≡ true) where
     further-fine b =
         let p = s .profile in
         let n = postsHere p 170 in
-        pick (eqb (blockFault 1 n block .kind) 0)
+        pick (eqb (postsRestFault 1 n block .kind) 0)
         (λ z.
         filling-fine number (s .column) p (heightsHere s p 1 n block)
-        (further-grows s block facts b (eqb-true (blockFault 1 n block .kind) 0 z)))
+        (further-grows s block facts b (eqb-true (postsRestFault 1 n block .kind) 0 z)))
         (λ z. kept _ _ _)
 
     opening-fine : busy s ≡ false → s .closed < s .header .profiles → Fine s (opening s number block (recordB (s .closed + 1) block))
@@ -356,14 +356,14 @@ module _ (s : Session) (t : sound s ≡ true) where
         go (NoProfile kind byte) e = kept kind number byte
         go (Headed·Profile h) e =
             let n = min (h .posts) 146 in
-            pick (eqb (blockFault 145 n block .kind) 0)
+            pick (eqb (postsRestFault 145 n block .kind) 0)
             (λ z.
             pick (columnFits s (columnPlace s h))
             (λ c.
             pick (rowFits s (h .posts) (rowPlace s h))
             (λ r.
             filling-fine number (firstColumn s h) (opened s h) (heightsHere s (opened s h) 145 n block)
-            (opening-grows s block h t due idle below e (eqb-true (blockFault 145 n block .kind) 0 z) c r))
+            (opening-grows s block h t due idle below e (eqb-true (postsRestFault 145 n block .kind) 0 z) c r))
             (λ r. kept 10 number 49))
             (λ c. kept 10 number 25))
             (λ z. kept _ _ _)

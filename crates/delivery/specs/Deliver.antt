@@ -25,7 +25,7 @@ use Rattle.session.specs.declared.Session.{Session}
 use Rattle.session.specs.declared.Profile.{Profile}
 use Rattle.session.specs.Session.{noProfile, openBlocks, busy, sound, complete, begun}
 use Rattle.ground.specs.declared.Tally.{Tally}
-use Rattle.ground.specs.Posts.{tallyAll, postsOf, heights, blockFault, void}
+use Rattle.ground.specs.Posts.{tallyAll, postsOf, heights, postsRestFault, void}
 use Rattle.delivery.specs.declared.Refusal.{Refusal}
 use Rattle.delivery.specs.declared.Answer.the-variants.{Taken, Held, Refused}
 use Rattle.delivery.specs.declared.Delivered.{Delivered}
@@ -168,7 +168,7 @@ abbrev pub further : Session → ℕ → List ℕ → Verdict
 further s number block =
     let p = s .profile in
     let n = postsHere p 170 in
-    unless (blockFault 1 n block) number (filling s number (s .column) p (heightsHere s p 1 n block))
+    unless (postsRestFault 1 n block) number (filling s number (s .column) p (heightsHere s p 1 n block))
 
 -- "x is on the lattice": the first profile so that all n find room, every other one column east of the one before
 abbrev pub columnFits : Session → Place → Bool
@@ -222,7 +222,7 @@ abbrev pub openingWith : Session → ℕ → List ℕ → Head → Verdict
 openingWith s number block h =
     let p = opened s h in
     let n = min (h .posts) 146 in
-    unless (blockFault 145 n block) number
+    unless (postsRestFault 145 n block) number
     (placed s number h (filling s number (firstColumn s h) p (heightsHere s p 145 n block)))
 
 abbrev pub opening : Session → ℕ → List ℕ → Headed → Verdict

@@ -16,7 +16,7 @@ use Rattle.field.specs.Field.{fault, faultOr, stretch, restFault}
 use Rattle.field.specs.Rules.{Clause, KeepsAll, FirstBroken, integerForms, blankRules}
 use Rattle.field.proofs.Rules.{brokenOr, named, first-append, fault-first, fault-exactly}
 use Rattle.field.proofs.FieldRules.{Says, own-says, form-says}
-use Rattle.ground.specs.Posts.{judgePost, postsFault, blockFault}
+use Rattle.ground.specs.Posts.{judgePost, postsFault, postsRestFault}
 use Rattle.ground.specs.RulesPosts.{postRules, rulesPosts, rulesBlock}
 
 posts-named : (n byte : ℕ) (cs : List Clause) → all named cs ≡ true → all named (rulesPosts n byte ++ cs) ≡ true
@@ -62,7 +62,7 @@ module _ (block : List ℕ) (h : length block ≡ 1024) where
     posts-first = fault-first block (rulesPosts n byte) (postsFault n byte block) (posts-are n byte i) plain-named
 
     -- .. and the blanks behind them
-    block-is : blockFault byte n block ≡ brokenOr block (rulesBlock byte n) (fault 0 0)
+    block-is : postsRestFault byte n block ≡ brokenOr block (rulesBlock byte n) (fault 0 0)
     block-is =
         sym
         (first-append block (rulesPosts n byte) (blankRules (byte + 6 * n)) (fault 0 0)
@@ -71,8 +71,8 @@ module _ (block : List ℕ) (h : length block ≡ 1024) where
     block-named : all named (rulesBlock byte n) ≡ true
     block-named = posts-named n byte (blankRules (byte + 6 * n)) refl
 
-    pub block-exactly : (blockFault byte n block .kind ≡ 0) ↔ KeepsAll block (rulesBlock byte n)
-    block-exactly = fault-exactly block (rulesBlock byte n) (blockFault byte n block) block-is block-named
+    pub block-exactly : (postsRestFault byte n block .kind ≡ 0) ↔ KeepsAll block (rulesBlock byte n)
+    block-exactly = fault-exactly block (rulesBlock byte n) (postsRestFault byte n block) block-is block-named
 
-    pub block-first : (c : Clause) → FirstBroken block c (rulesBlock byte n) → blockFault byte n block ≡ fault (c .kind) (c .byte)
-    block-first = fault-first block (rulesBlock byte n) (blockFault byte n block) block-is block-named
+    pub block-first : (c : Clause) → FirstBroken block c (rulesBlock byte n) → postsRestFault byte n block ≡ fault (c .kind) (c .byte)
+    block-first = fault-first block (rulesBlock byte n) (postsRestFault byte n block) block-is block-named

@@ -82,6 +82,6 @@ merged t u =
     })
 
 -- "first fault by byte": the posts, then the rest of the block as one blank stretch
-abbrev pub blockFault : ℕ → ℕ → List ℕ → Fault
-blockFault byte n block =
+abbrev pub postsRestFault : ℕ → ℕ → List ℕ → Fault
+postsRestFault byte n block =
     cond (eqb (postsFault n byte block .kind) 0) (restFault (byte + 6 * n) block) (postsFault n byte block)

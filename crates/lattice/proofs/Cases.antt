@@ -9,7 +9,7 @@ use lib.Signed.{ltZ}
 use lib.Dec.{ltb, leb, eqb}
 use Rattle.laws.specs.Sign.{_and_}
 use Rattle.laws.proofs.Tests.{clash, and-first, and-second}
-use Rattle.lattice.specs.Lattice.{isReal, within, firstMultiple, lastMultiple, manyFrom, emptyLattice, latticeOf, multipleOf, placeOf}
+use Rattle.lattice.specs.Lattice.{isReal, placeWithin, firstMultiple, lastMultiple, manyFrom, emptyLattice, latticeOf, multipleOf, placeOf}
 use Rattle.lattice.specs.declared.Place.the-variants.{Off, On}
 use Rattle.lattice.specs.declared.Lattice.{Lattice}
 
@@ -20,15 +20,15 @@ pub small-real : (z : ℤ) → natAbs z < 10 ^ 18 → isReal z ≡ true
 small-real z = lt-ltb (natAbs z) (10 ^ 18)
 
 -- the place that a difference gives, by its sign
-pub within-minus : (z : ℤ) (count : ℕ) → ltZ z (pos 0) ≡ true → within z count ≡ Off
+pub within-minus : (z : ℤ) (count : ℕ) → ltZ z (pos 0) ≡ true → placeWithin z count ≡ Off
 within-minus (pos n) count t = absurd (omega (arith, ltb-true n 0 t))
 within-minus (negsuc n) count t = refl
 
-pub within-inside : (z : ℤ) (count : ℕ) → ltZ z (pos 0) ≡ false → natAbs z < count → within z count ≡ On (natAbs z)
+pub within-inside : (z : ℤ) (count : ℕ) → ltZ z (pos 0) ≡ false → natAbs z < count → placeWithin z count ≡ On (natAbs z)
 within-inside (pos n) count t h = rw (lt-ltb n count h)
 within-inside (negsuc n) count t h = clash t
 
-pub within-past : (z : ℤ) (count : ℕ) → ltZ z (pos 0) ≡ false → count ≤ natAbs z → within z count ≡ Off
+pub within-past : (z : ℤ) (count : ℕ) → ltZ z (pos 0) ≡ false → count ≤ natAbs z → placeWithin z count ≡ Off
 within-past (pos n) count t h = rw (le-ltb n count h)
 within-past (negsuc n) count t h = clash t
 
@@ -37,7 +37,7 @@ off-on e =
     let z : _≡_ {A = ℕ} 0 1 = cc in
     omega arith
 
-pub within-on : (z : ℤ) (count i : ℕ) → within z count ≡ On i → (i < count) × (z ≡ pos i)
+pub within-on : (z : ℤ) (count i : ℕ) → placeWithin z count ≡ On i → (i < count) × (z ≡ pos i)
 within-on (negsuc n) count i e = absurd (off-on e)
 within-on (pos n) count i e = go (ltb n count) refl
   where
@@ -72,7 +72,7 @@ module _ (l : Lattice) (s : ℕ) (z : ℤ) where
   abbrev pub hasPlace : Bool
   hasPlace = isReal z and isReal (l .first) and leb 1 s and eqb (natAbs z % s) 0
 
-  pub place-cases : (t : Bool) → hasPlace ≡ t → placeOf l s z ≡ cond t (within (multipleOf z s -ℤ l .first) (l .count)) Off
+  pub place-cases : (t : Bool) → hasPlace ≡ t → placeOf l s z ≡ cond t (placeWithin (multipleOf z s -ℤ l .first) (l .count)) Off
   unfolding placeOf
   place-cases t e = rw e
 

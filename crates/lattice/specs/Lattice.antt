@@ -44,15 +44,15 @@ abbrev pub multipleOf : ℤ → ℕ → ℤ
 multipleOf (pos v) s = pos (v / s)
 multipleOf (negsuc v) s = negℤ (pos (suc v / s))
 
-abbrev pub within : ℤ → ℕ → Place
-within (pos i) count = cond (ltb i count) (On i) Off
-within (negsuc i) count = Off
+abbrev pub placeWithin : ℤ → ℕ → Place
+placeWithin (pos i) count = cond (ltb i count) (On i) Off
+placeWithin (negsuc i) count = Off
 
 -- where a place stands on the lattice, counted from its first multiple; off it where it is no multiple, or one outside
 unfoldable pub placeOf : Lattice → ℕ → ℤ → Place
 placeOf l spacing z =
     cond (isReal z and isReal (l .first) and leb 1 spacing and eqb (natAbs z % spacing) 0)
-    (within (multipleOf z spacing -ℤ l .first) (l .count))
+    (placeWithin (multipleOf z spacing -ℤ l .first) (l .count))
     Off
 
 abbrev pub placeNumber : Place → ℕ

@@ -4,7 +4,7 @@ ghost use mathlib.Core.Bool.{true};
 ghost use Prim.Native.Nat.{_+_, _<_, _≤_, _^_};
 ghost use lib.Dec.{leb};
 ghost use lib.IntN.{_-ℤ_};
-ghost use Rattle.lattice.specs.Lattice.{isReal, emptyLattice, manyFrom, within, latticeOf, placeOf, placeNumber};
+ghost use Rattle.lattice.specs.Lattice.{isReal, emptyLattice, manyFrom, placeWithin, latticeOf, placeOf, placeNumber};
 ghost use Rattle.lattice.specs.Steps.{rounded, inSpacings};
 
 // The first multiple of the spacing, as a number of spacings, and how many multiples there are.
@@ -94,7 +94,7 @@ pub fn span(least: i64, greatest: i64, spacing: u64) -> Lattice
 // A multiple's place, counted from the first.
 fn from_first(multiple: i64, first: i64, count: u64) -> Place
     requires { ⌜ (isReal multiple ≡ true) × (isReal first ≡ true) ⌝ }
-    ensures { λ r. ⌜ r ≡ within (multiple -ℤ first) count ⌝ }
+    ensures { λ r. ⌜ r ≡ placeWithin (multiple -ℤ first) count ⌝ }
 {
     let d = multiple - first;
     if d < 0 {

@@ -30,12 +30,12 @@ stepOf s number block grid =
     cond (eqb (length block) 0) (turn s 1 0 0 0)
     (turnAfter (deliverOf s number block (lend grid) .session) (deliverOf s number block (lend grid) .answer))
 
-abbrev pub cellsOf : Session → ℕ → List ℕ → List ℤ → List ℤ
-cellsOf s number block grid = cond (eqb (length block) 0) grid (lentAfter s number block (lend grid) .grid)
+abbrev pub cellsLeft : Session → ℕ → List ℕ → List ℤ → List ℤ
+cellsLeft s number block grid = cond (eqb (length block) 0) grid (lentAfter s number block (lend grid) .grid)
 
 -- what a turn promises: where the listing stands, and every cell
 abbrev pub Steps : Session → ℕ → List ℕ → List ℤ → List ℤ → Turn → Type 0
-Steps s number block before after t = (t ≡ stepOf s number block before) × (after ≡ cellsOf s number block before)
+Steps s number block before after t = (t ≡ stepOf s number block before) × (after ≡ cellsLeft s number block before)
 
 -- some next bytes of the input, at most a block, were taken
 pub record Took (s : Session) (number : ℕ) (before after : List ℤ) (t : Turn) : Type 0 where

@@ -20,7 +20,7 @@ use Rattle.sheet.specs.declared.Checked.the-variants.{Sheet, Refused as NoSheet
 use Rattle.session.specs.Session.{busy}
 use Rattle.session.specs.declared.Session.{Session}
 use Rattle.session.specs.declared.Profile.{Profile}
-use Rattle.ground.specs.Posts.{noTally, tallyAll, heights, postsOf, blockFault}
+use Rattle.ground.specs.Posts.{noTally, tallyAll, heights, postsOf, postsRestFault}
 use Rattle.ground.proofs.PostsRead.{scan-few, posts-length}
 use Rattle.ground.proofs.Heights.{heights-length}
 use Rattle.posts.specs.Steps.{BlockScanned}
@@ -61,22 +61,22 @@ module _ (f : Fault) (number : ℕ) (v : Verdict) (kind byte : ℕ) (is : fault 
 
 -- a block of the open profile, and a profile's first, by the fault of its n posts
 module _ (s : Session) (number : ℕ) (block : List ℕ) (n kind byte : ℕ) where
-  module _ (e : n ≡ postsHere (s .profile) 170) (is : fault kind byte ≡ blockFault 1 n block) where
+  module _ (e : n ≡ postsHere (s .profile) 170) (is : fault kind byte ≡ postsRestFault 1 n block) where
     pub further-refused : (kind ≡ 0 → ⊥) → wrong kind number byte ≡ further s number block
-    further-refused h = rw (← e) (fault-refused (blockFault 1 n block) number _ kind byte is h)
+    further-refused h = rw (← e) (fault-refused (postsRestFault 1 n block) number _ kind byte is h)
 
     pub further-fine : kind ≡ 0
         → filling s number (s .column) (s .profile) (heightsHere s (s .profile) 1 n block) ≡ further s number block
-    further-fine h = rw (← e) (fault-none (blockFault 1 n block) number _ kind byte is h)
+    further-fine h = rw (← e) (fault-none (postsRestFault 1 n block) number _ kind byte is h)
 
-  module _ (head : Head) (e : n ≡ min (head .posts) 146) (is : fault kind byte ≡ blockFault 145 n block) where
+  module _ (head : Head) (e : n ≡ min (head .posts) 146) (is : fault kind byte ≡ postsRestFault 145 n block) where
     pub opening-refused : (kind ≡ 0 → ⊥) → wrong kind number byte ≡ openingWith s number block head
-    opening-refused h = rw (← e) (fault-refused (blockFault 145 n block) number _ kind byte is h)
+    opening-refused h = rw (← e) (fault-refused (postsRestFault 145 n block) number _ kind byte is h)
 
     pub opening-fine : kind ≡ 0
         → placed s number head (filling s number (firstColumn s head) (opened s head) (heightsHere s (opened s head) 145 n block))
         ≡ openingWith s number block head
-    opening-fine h = rw (← e) (fault-none (blockFault 145 n block) number _ kind byte is h)
+    opening-fine h = rw (← e) (fault-none (postsRestFault 145 n block) number _ kind byte is h)
 
 -- a block scanned without fault fills no more cells than it has posts
 pub scanned-count : (s : Session) (datum : ℤ) (byte n : ℕ) (block : List ℕ) (before after : List ℤ) (r : Scan)

@@ -18,7 +18,7 @@ use Rattle.frame.specs.Frame.{columnsOf, rowsOf, zOf}
 use Rattle.profile.specs.RecordB.{recordB, headFault, headOf}
 use Rattle.session.specs.declared.Session.{Session}
 use Rattle.session.specs.declared.Profile.{Profile}
-use Rattle.ground.specs.Posts.{postsFault, blockFault, postsOf, heights, filledIn}
+use Rattle.ground.specs.Posts.{postsFault, postsRestFault, postsOf, heights, filledIn}
 use Rattle.ground.specs.Extremes.{filledOnly, leastOf, greatestOf}
 use Rattle.delivery.specs.Deliver.{columnFits, Verdict, unless, wrong, filling, further, opening, openingWith, opened, placed, columnPlace, firstColumn, rowFits, rowPlace, postsHere}
 use Rattle.meaning.specs.Text.{numberOn, headerIn, zIn, startOf, headIn, postsIn, heightsIn, columnPlaceIn, rowPlaceIn, columnIn}
@@ -47,7 +47,7 @@ abbrev pub rulesAt : ℕ → ℕ → ℕ → List ℕ → List Breach
 rulesAt b n byte block = inBlock b (postsFault n byte block) ∷ (inBlock b (restFault (byte + 6 * n) block) ∷ [])
 
 block-verdict : (b n byte : ℕ) (block : List ℕ) (v : Verdict)
-    → unless (blockFault byte n block) b v ≡ byBreach (firstBroken (rulesAt b n byte block)) v
+    → unless (postsRestFault byte n block) b v ≡ byBreach (firstBroken (rulesAt b n byte block)) v
 block-verdict b n byte block v =
     by-test (eqb (postsFault n byte block .kind) 0)
     (λ e. rw e (by-test (eqb (restFault (byte + 6 * n) block .kind) 0) (λ t. rw t) (λ t. rw (t, t))))
@@ -112,7 +112,7 @@ module _ (text more block : List ℕ) (k : ℕ) (x : Extends text more block k) 
         let m = headIn more c .posts in
         let datum = headIn more c .datum in
         let by : ℕ → ℕ → Profile → ℕ → ℕ → Verdict
-        = λ column z p n byte. unless (blockFault byte n block) k (filling s k column p (heights z (p .datum) (postsOf n byte block))) in
+        = λ column z p n byte. unless (postsRestFault byte n block) k (filling s k column p (heights z (p .datum) (postsOf n byte block))) in
         let col : s .column ≡ columnIn more 0 = first-column (omega (arith, begun, start-from text c)) in
         let n : postsHere (s .profile) 170 ≡ postsOfBlock m q = ap (λ (p : Profile). postsHere p 170) profile-so-far ∙ posts-next in
         (λ i. by (col i) (same-z i) (profile-so-far i) (n i) (byte-next i))
@@ -252,7 +252,7 @@ module _ (text more block : List ℕ) (k : ℕ) (x : Extends text more block k) 
         ap (λ (a : ℕ). opening s k block (recordB a block)) n
         ∙ head-verdict (suc c)
         ∙ ap (byBreach head)
-        ((λ i. unless (blockFault 145 (min (head-here i .posts) 146) block) k (placed s k (headOf block) (rows i)))
+        ((λ i. unless (postsRestFault 145 (min (head-here i .posts) 146) block) k (placed s k (headOf block) (rows i)))
         ∙ block-verdict k (min m 146) 145 block (placed s k (headOf block) fill)
         ∙ ap₂ (λ (bs : List Breach) (v : Verdict). byBreach (firstBroken bs) v) rules-first (place-verdict fill)
         ∙ sym (by-append (blockRules more c 0) (placeRules more c) fill))

@@ -8,19 +8,19 @@ use lib.Dec.{leb}
 use mathlib.Core.Bool.{true, false, not}
 use native.Mathlib.Omega.{arith}
 use Rattle.laws.proofs.Tests.{and-fails-second}
-use Rattle.number.specs.Integer.{within, refused, integer, integerForm, integerValue, read, unsignedPart}
+use Rattle.number.specs.Integer.{ofLength, refused, integer, integerForm, integerValue, read, unsignedPart}
 use Rattle.number.specs.declared.Reading.{Reading}
 use Rattle.number.specs.Bytes.{isEmpty, isBlank, isSign, isDigit, pastOne, pastAll, digits}
 use Rattle.number.specs.Steps.{Past}
 use Rattle.number.proofs.Runs.{run-length}
 
-pub within-none : (most : ℕ) (s : List ℕ) (r : Reading) → length s < 1 → within most s r ≡ refused 1
+pub within-none : (most : ℕ) (s : List ℕ) (r : Reading) → length s < 1 → ofLength most s r ≡ refused 1
 within-none most s r h = simp (lt-leb 1 (length s) h)
 
-pub within-long : (most : ℕ) (s : List ℕ) (r : Reading) → most < length s → within most s r ≡ refused 1
+pub within-long : (most : ℕ) (s : List ℕ) (r : Reading) → most < length s → ofLength most s r ≡ refused 1
 within-long most s r h = simp (and-fails-second (leb 1 (length s)) (lt-leb (length s) most h))
 
-pub within-good : (most : ℕ) (s : List ℕ) (r : Reading) → 1 ≤ length s → length s ≤ most → within most s r ≡ r
+pub within-good : (most : ℕ) (s : List ℕ) (r : Reading) → 1 ≤ length s → length s ≤ most → ofLength most s r ≡ r
 within-good most s r h k = simp (le-leb 1 (length s) h, le-leb (length s) most k)
 
 pub empty-none : (l : List ℕ) → length l ≤ 0 → isEmpty l ≡ true

@@ -12,7 +12,7 @@ use Rattle.laws.specs.Sign.{_and_, signed}
 use Rattle.laws.proofs.Tests.{clash, and-both, by-test}
 use Rattle.laws.proofs.Answers.{one-answer}
 use Rattle.number.specs.declared.Reading.{Reading}
-use Rattle.number.specs.Integer.{refused, within, read, integer, integerForm, integerValue, unsignedPart}
+use Rattle.number.specs.Integer.{refused, ofLength, read, integer, integerForm, integerValue, unsignedPart}
 use Rattle.number.specs.Grammar.{IntegerText, IntegerMeans, RealText, RealMeans, Large, Billionths}
 use Rattle.number.specs.Bytes.{isBlank, isMinus, starts, pastAll}
 use Rattle.number.specs.Real.{realValue, real, realForm}
@@ -40,21 +40,21 @@ module _ (most : ℕ) (s : List ℕ) {Text : Type 0} {Says : Text → Reading �
   fits-test : Fits most s → fits ≡ true
   fits-test f = and-both (le-leb 1 (length s) (f .0)) (le-leb (length s) most (f .1))
 
-  answer : Answer most s Text Says (within most s (cond form good (refused 6)))
+  answer : Answer most s Text Says (ofLength most s (cond form good (refused 6)))
   answer = by-test fits go (λ i. rw i (wrong-length (λ f. clash (sym (fits-test f) ∙ i))))
     where
-      go : fits ≡ true → Answer most s Text Says (within most s (cond form good (refused 6)))
+      go : fits ≡ true → Answer most s Text Says (ofLength most s (cond form good (refused 6)))
       go i =
           let f = between 1 (length s) most i in
           by-test form (λ e. rw (i, e) (formed f (found e) (says e)))
           (λ e. rw (i, e) (wrong-form f (λ t. clash (sym (passes t) ∙ e))))
 
-  answer-is : {r : Reading} → Answer most s Text Says r → within most s (cond form good (refused 6)) ≡ r
+  answer-is : {r : Reading} → Answer most s Text Says r → ofLength most s (cond form good (refused 6)) ≡ r
   answer-is (wrong-length g) = by-test fits (λ i. absurd (g (between 1 (length s) most i))) (λ i. rw i)
   answer-is (wrong-form f none) = by-test form (λ e. absurd (none (found e))) (λ e. rw (fits-test f, e))
   answer-is (formed f t v) = rw (fits-test f, passes t) (said t _ v)
 
-  answers : (r : Reading) → (within most s (cond form good (refused 6)) ≡ r) ↔ Answer most s Text Says r
+  answers : (r : Reading) → (ofLength most s (cond form good (refused 6)) ≡ r) ↔ Answer most s Text Says r
   answers r = (λ e. subst (Answer most s Text Says) e answer, answer-is)
 
 pub record SomeInteger (s : List ℕ) : Type 0 where

@@ -14,7 +14,7 @@ use Rattle.number.specs.Bytes.{isEmpty, starts, pastOne, pastAll, isDigi
 use Rattle.number.specs.Grammar.Sign.{minus, unsigned, plus}
 use Rattle.number.specs.Grammar.{Sign, Fraction, Exponent}
 use Rattle.number.specs.Integer.{unsignedPart}
-use Rattle.number.specs.Grammar.Fraction.{whole, pointed}
+use Rattle.number.specs.Grammar.Fraction.{noPoint, pointed}
 use Rattle.number.specs.Grammar.Exponent.{absent, lettered}
 use Rattle.number.specs.Real.{powerForm, pastPower, powerMinus, powerSize}
 use Rattle.number.proofs.Places.{digit-range}
@@ -151,14 +151,14 @@ pub record FractionRead (after fraction y : List ℕ) : Type 0 where
 
 pub fraction-read : {after fraction : List ℕ} → Fraction after fraction → (y : List ℕ) → starts isPoint y ≡ false
     → starts isDigit y ≡ false → FractionRead after fraction y
-fraction-read whole y p d =
+fraction-read noPoint y p d =
     let e = one-of isPoint y p in
     record { stops = d; digits = rw e (digits-of [] y refl d); past = rw e (past-of isDigit [] y refl d) }
 fraction-read (pointed xs h) y p d = record { stops = refl; digits = digits-of xs y h d; past = past-of isDigit xs y h d }
 
 pub mantissa-opens : (xs : List ℕ) {after f : List ℕ} → Fraction after f → (y : List ℕ) → every isDigit xs ≡ true
     → 1 ≤ length (xs ++ f) → Opens (xs ++ (after ++ y))
-mantissa-opens [] whole y h l = absurd (omega arith)
+mantissa-opens [] noPoint y h l = absurd (omega arith)
 mantissa-opens [] (pointed ys d) y h l = refl
 mantissa-opens (c ∷ xs) {after} r y h l = digits-open (c ∷ xs) (after ++ y) h (omega arith)
 
@@ -168,12 +168,12 @@ pub record FractionFound (t : List ℕ) : Type 0 where
   pub is : Fraction after (digits (pastOne isPoint t))
 
 pub fraction-found : (t : List ℕ) → starts isDigit t ≡ false → FractionFound t
-fraction-found [] d = record { after = []; text = refl; is = whole }
+fraction-found [] d = record { after = []; text = refl; is = noPoint }
 fraction-found (c ∷ t) d =
     let is = pointed (digits t) (digits-every t) in
     by-test (eqb c 46)
     (λ e. rw (eqb-true c 46 e) (record { after = 46 ∷ digits t; text = ap (λ r. 46 ∷ r) (digits-past t); is = is }))
-    (λ e. record { after = []; text = rw (isPoint, e, d); is = rw (isPoint, e, d) whole })
+    (λ e. record { after = []; text = rw (isPoint, e, d); is = rw (isPoint, e, d) noPoint })
 
 blanks-start : (is : ℕ → Bool) (xs : List ℕ) → is 32 ≡ false → every isBlank xs ≡ true → starts is xs ≡ false
 blanks-start is [] h e = refl

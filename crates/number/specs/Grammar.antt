@@ -30,7 +30,7 @@ pub record IntegerText (s : List ℕ) (negative : Bool) (size : ℕ) : Type 0 wh
 
 -- "digits with at most one point": what stands after the whole digits, and the digits of the fraction in it
 pub data Fraction : List ℕ → List ℕ → Type 0 where
-  whole : Fraction [] []
+  noPoint : Fraction [] []
   pointed : (digits : List ℕ) → every isDigit digits ≡ true → Fraction (46 ∷ digits) digits
 
 -- "an optional exponent": its text, whether it is negative, its size

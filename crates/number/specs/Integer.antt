@@ -17,8 +17,8 @@ abbrev pub read : ℤ → Reading
 read z = record { kind = 0; value = z }
 
 -- "Read alone": a field has a byte at least and a greatest length, 6 for an integer and 24 for a real; another length is kind 1
-abbrev pub within : ℕ → List ℕ → Reading → Reading
-within most s r = cond (leb 1 (length s) and leb (length s) most) r (refused 1)
+abbrev pub ofLength : ℕ → List ℕ → Reading → Reading
+ofLength most s r = cond (leb 1 (length s) and leb (length s) most) r (refused 1)
 
 -- the field past its blanks and its sign
 abbrev pub unsignedPart : List ℕ → List ℕ
@@ -32,4 +32,4 @@ abbrev pub integerValue : List ℕ → ℤ
 integerValue s = signed (starts isMinus (pastAll isBlank s)) (number 0 (digits (unsignedPart s)))
 
 unfoldable pub integer : List ℕ → Reading
-integer s = within 6 s (cond (integerForm s) (read (integerValue s)) (refused 6))
+integer s = ofLength 6 s (cond (integerForm s) (read (integerValue s)) (refused 6))

@@ -8,7 +8,7 @@ use Rattle.laws.specs.Sign.{_and_, signed}
 use Rattle.laws.specs.Digits.{short}
 use Rattle.number.specs.Bytes.{isPoint, isDigit, pastOne, pastAll, digits, isSign, isLetter, starts, isMinus, number, isBlank, isEmpty}
 use Rattle.number.specs.declared.Reading.{Reading}
-use Rattle.number.specs.Integer.{read, refused, within, unsignedPart}
+use Rattle.number.specs.Integer.{read, refused, ofLength, unsignedPart}
 
 -- "digits with at most one point": u is the field past its sign
 abbrev pub fractionPart : List ℕ → List ℕ
@@ -61,5 +61,5 @@ realValue minus u = billionths minus (number 0 (mantissaDigits u)) (up u) (down 
 
 unfoldable pub real : List ℕ → Reading
 real s =
-    within 24 s
+    ofLength 24 s
     (cond (realForm (unsignedPart s)) (realValue (starts isMinus (pastAll isBlank s)) (unsignedPart s)) (refused 6))

@@ -15,7 +15,7 @@ use Rattle.laws.proofs.Tests.{and-fails-first, and-fails-second, by-test, and-f
 use Rattle.number.specs.Bytes.{isBlank}
 use Rattle.number.specs.Integer.{integer}
 use Rattle.field.specs.Field.{fault, stretch}
-use Rattle.ground.specs.Posts.{noTally, postsFault, blockFault, judgePost, postsOf, heights, tallyAll}
+use Rattle.ground.specs.Posts.{noTally, postsFault, postsRestFault, judgePost, postsOf, heights, tallyAll}
 use Rattle.ground.proofs.PostsRead.{fault-on, fault-none, posts-length}
 use Rattle.ground.proofs.Heights.{heights-length}
 use Rattle.posts.specs.Scan.{askable, goodPosts, heightsOver, scan, scanned, scanOf, scratchAfter}
@@ -65,13 +65,13 @@ asks block byte n z datum room a b c d e f =
 
 -- ---- what a caller has
 
-posts-fine : (byte n : ℕ) (block : List ℕ) → blockFault byte n block .kind ≡ 0 → postsFault n byte block .kind ≡ 0
+posts-fine : (byte n : ℕ) (block : List ℕ) → postsRestFault byte n block .kind ≡ 0 → postsFault n byte block .kind ≡ 0
 posts-fine byte n block z =
     by-test (eqb (postsFault n byte block .kind) 0) (eqb-true (postsFault n byte block .kind) 0)
     (λ e. absurd (eqb-false (postsFault n byte block .kind) 0 e (rw e at z)))
 
 -- without a fault there is neither kind nor byte
-no-fault : (byte n : ℕ) (block : List ℕ) → blockFault byte n block .kind ≡ 0 → blockFault byte n block ≡ fault 0 0
+no-fault : (byte n : ℕ) (block : List ℕ) → postsRestFault byte n block .kind ≡ 0 → postsRestFault byte n block ≡ fault 0 0
 no-fault byte n block z =
     by-test (eqb (postsFault n byte block .kind) 0)
     (λ e.
@@ -98,10 +98,10 @@ module _ (block : List ℕ) (byte n z : ℕ) (datum : ℤ) (before after : List 
   pub block-scanned : BlockScanned block byte n z datum before after r
   block-scanned =
       record {
-        fault-is = by-test (eqb (blockFault byte n block .kind) 0) fine stopped;
+        fault-is = by-test (eqb (postsRestFault byte n block .kind) 0) fine stopped;
         kept = ap length scratch-is ∙ long (goodPosts n byte block) (good-most n byte block);
         heights-are = λ k. ap (take n) scratch-is ∙ front (good k);
-        tally-is = λ k. by-test (eqb (blockFault byte n block .kind) 0) counts (λ e. absurd (clashing k e));
+        tally-is = λ k. by-test (eqb (postsRestFault byte n block .kind) 0) counts (λ e. absurd (clashing k e));
         posts-fine = clear;
       }
     where
@@ -111,29 +111,29 @@ module _ (block : List ℕ) (byte n z : ℕ) (datum : ℤ) (before after : List 
       scratch-is : after ≡ heightsOver block byte (goodPosts n byte block) z datum before
       scratch-is = left ∙ rw t
 
-      bad : eqb (blockFault byte n block .kind) 0 ≡ false → r ≡ scan (blockFault byte n block .kind) (blockFault byte n block .byte) noTally
+      bad : eqb (postsRestFault byte n block .kind) 0 ≡ false → r ≡ scan (postsRestFault byte n block .kind) (postsRestFault byte n block .byte) noTally
       bad e = here ∙ rw e
 
-      fine : eqb (blockFault byte n block .kind) 0 ≡ true → fault (r .kind) (r .byte) ≡ blockFault byte n block
+      fine : eqb (postsRestFault byte n block .kind) 0 ≡ true → fault (r .kind) (r .byte) ≡ postsRestFault byte n block
       fine e =
           let w : r ≡ scan 0 0 (tallyAll noTally (heights z datum (postsOf n byte block))) = here ∙ rw e in
-          ap (λ (x : Scan). fault (x .kind) (x .byte)) w ∙ sym (no-fault byte n block (eqb-true (blockFault byte n block .kind) 0 e))
+          ap (λ (x : Scan). fault (x .kind) (x .byte)) w ∙ sym (no-fault byte n block (eqb-true (postsRestFault byte n block .kind) 0 e))
 
-      stopped : eqb (blockFault byte n block .kind) 0 ≡ false → fault (r .kind) (r .byte) ≡ blockFault byte n block
+      stopped : eqb (postsRestFault byte n block .kind) 0 ≡ false → fault (r .kind) (r .byte) ≡ postsRestFault byte n block
       stopped e = ap (λ (x : Scan). fault (x .kind) (x .byte)) (bad e)
 
-      counts : eqb (blockFault byte n block .kind) 0 ≡ true → r .tally ≡ tallyAll noTally (heights z datum (postsOf n byte block))
+      counts : eqb (postsRestFault byte n block .kind) 0 ≡ true → r .tally ≡ tallyAll noTally (heights z datum (postsOf n byte block))
       counts e =
           let w : r ≡ scan 0 0 (tallyAll noTally (heights z datum (postsOf n byte block))) = here ∙ rw e in
           ap (λ (x : Scan). x .tally) w
 
-      clashing : r .kind ≡ 0 → eqb (blockFault byte n block .kind) 0 ≡ false → ⊥
-      clashing k e = eqb-false (blockFault byte n block .kind) 0 e (sym (ap (λ (x : Scan). x .kind) (bad e)) ∙ k)
+      clashing : r .kind ≡ 0 → eqb (postsRestFault byte n block .kind) 0 ≡ false → ⊥
+      clashing k e = eqb-false (postsRestFault byte n block .kind) 0 e (sym (ap (λ (x : Scan). x .kind) (bad e)) ∙ k)
 
       clear : r .kind ≡ 0 → postsFault n byte block .kind ≡ 0
       clear k =
           posts-fine byte n block
-          (by-test (eqb (blockFault byte n block .kind) 0) (eqb-true (blockFault byte n block .kind) 0) (λ e. absurd (clashing k e)))
+          (by-test (eqb (postsRestFault byte n block .kind) 0) (eqb-true (postsRestFault byte n block .kind) 0) (λ e. absurd (clashing k e)))
 
       good : r .kind ≡ 0 → goodPosts n byte block ≡ n
       good k = all-good n byte block (clear k)

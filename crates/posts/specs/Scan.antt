@@ -9,7 +9,7 @@ use lib.Seq.{sets}
 use Rattle.laws.specs.Sign.{_and_}
 use Rattle.number.specs.Integer.{integer}
 use Rattle.field.specs.Field.{stretch}
-use Rattle.ground.specs.Posts.{judgePost, postsOf, blockFault, heights, tallyAll, noTally, void}
+use Rattle.ground.specs.Posts.{judgePost, postsOf, postsRestFault, heights, tallyAll, noTally, void}
 use Rattle.ground.specs.declared.Tally.{Tally}
 use Rattle.posts.specs.declared.Scan.{Scan}
 
@@ -30,8 +30,8 @@ scan kind byte tally = record { kind = kind; byte = byte; tally = tally }
 -- the first fault; without one the tally of the heights
 abbrev pub scanned : List ℕ → ℕ → ℕ → ℕ → ℤ → Scan
 scanned block byte n z datum =
-    cond (eqb (blockFault byte n block .kind) 0) (scan 0 0 (tallyAll noTally (heights z datum (postsOf n byte block))))
-    (scan (blockFault byte n block .kind) (blockFault byte n block .byte) noTally)
+    cond (eqb (postsRestFault byte n block .kind) 0) (scan 0 0 (tallyAll noTally (heights z datum (postsOf n byte block))))
+    (scan (postsRestFault byte n block .kind) (postsRestFault byte n block .byte) noTally)
 
 -- kind 1 where the scan could not be asked
 abbrev pub scanOf : List ℕ → ℕ → ℕ → ℕ → ℤ → ℕ → Scan

@@ -6,7 +6,7 @@ use lib.IntN.{ℤ, natAbs}
 use lib.ListN.{length, take}
 use Rattle.field.specs.Field.{fault}
 use Rattle.ground.specs.declared.Tally.{Tally}
-use Rattle.ground.specs.Posts.{postsFault, postsOf, heights, tallyAll, noTally, blockFault}
+use Rattle.ground.specs.Posts.{postsFault, postsOf, heights, tallyAll, noTally, postsRestFault}
 use Rattle.posts.specs.Scan.{goodPosts, heightsOver}
 use Rattle.posts.specs.declared.Scan.{Scan}
 
@@ -28,7 +28,7 @@ pub record Scanned (block : List ℕ) (byte n z : ℕ) (datum : ℤ) (t : Tally)
 
 -- a block scanned whole: its first fault; where there is none the heights at the front of the scratch, and their tally
 pub record BlockScanned (block : List ℕ) (byte n z : ℕ) (datum : ℤ) (before after : List ℤ) (r : Scan) : Type 0 where
-  pub fault-is : fault (r .kind) (r .byte) ≡ blockFault byte n block
+  pub fault-is : fault (r .kind) (r .byte) ≡ postsRestFault byte n block
   pub kept : length after ≡ length before
   pub heights-are : r .kind ≡ 0 → take n after ≡ heights z datum (postsOf n byte block)
   pub tally-is : r .kind ≡ 0 → r .tally ≡ tallyAll noTally (heights z datum (postsOf n byte block))

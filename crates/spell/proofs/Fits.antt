@@ -19,17 +19,17 @@ use Rattle.numerals.proofs.Numerals.{minus-short}
 use Rattle.numerals.proofs.Counts.{count-small}
 use Rattle.number.specs.Real.{real}
 use Rattle.number.proofs.Limits.{real-limits}
-use Rattle.spell.specs.Spell.{whole, integerFits, integerText, decimal, realText, realFits}
+use Rattle.spell.specs.Spell.{wholeText, integerFits, integerText, decimal, realText, realFits}
 use Rattle.spell.proofs.Pieces.{justified-length}
 use Rattle.spell.proofs.Texts.{decimal-length, not-below, whole-length}
 
-pub integer-room : (width : ℕ) (z : ℤ) → integerFits width z ≡ true → length (whole z) ≤ width
+pub integer-room : (width : ℕ) (z : ℤ) → integerFits width z ≡ true → length (wholeText z) ≤ width
 unfolding integerFits
-integer-room width z h = leb-true (length (whole z)) width h
+integer-room width z h = leb-true (length (wholeText z)) width h
 
 pub integer-length : (width : ℕ) (z : ℤ) → integerFits width z ≡ true → length (integerText width z) ≡ width
 unfolding integerText
-integer-length width z h = justified-length width (whole z) (integer-room width z h)
+integer-length width z h = justified-length width (wholeText z) (integer-room width z h)
 
 pub record RealFits (digits width : ℕ) (z : ℤ) : Type 0 where
   pub modest : natAbs z < 10 ^ 18
@@ -107,5 +107,5 @@ pub integer-fits : (digits width : ℕ) (z : ℤ) → 1 ≤ digits → digits �
     → integerFits width z ≡ true
 unfolding integerFits
 integer-fits digits width z some most below room =
-    le-leb (length (whole z)) width
+    le-leb (length (wholeText z)) width
     (omega (arith, whole-length z, minus-short z, count-small 1 20 (natAbs z) digits some most below))

@@ -23,7 +23,7 @@ use Rattle.number.specs.Bytes.{isLetter}
 use Rattle.number.specs.Grammar.Fraction.{pointed}
 use Rattle.number.specs.Real.{real}
 use Rattle.number.proofs.Grammar.{integer-means, real-means}
-use Rattle.spell.specs.Spell.{wholeDigits, integerFits, whole, integerText, sizeDigits, leading, decimal, powerText, realText, realFits}
+use Rattle.spell.specs.Spell.{wholeDigits, integerFits, wholeText, integerText, sizeDigits, leading, decimal, powerText, realText, realFits}
 use Rattle.spell.proofs.Fits.{integer-room, integer-length, RealFits, real-fits, real-length}
 use Rattle.spell.proofs.Texts.{whole-length}
 use Rattle.spell.proofs.Spelled.{blanks-blank, minus-sign, sign-size}
@@ -54,11 +54,11 @@ module _ (width : ℕ) (z : ℤ) (h : width ≤ 6) (f : integerFits width z ≡ 
       let k = wholeDigits (natAbs z) in
       let l : 1 ≤ k = count-least 1 20 (natAbs z) (omega arith) (size-small width z h f) in
       record {
-        blanks = replicate (width - length (whole z)) 32;
+        blanks = replicate (width - length (wholeText z)) 32;
         sign = minus z;
         digits = spell k (natAbs z);
         text = refl;
-        blank = blanks-blank (width - length (whole z));
+        blank = blanks-blank (width - length (wholeText z));
         signs = minus-sign z;
         digit = spell-digits k (natAbs z) below;
         some = omega (arith, spell-length k (natAbs z));

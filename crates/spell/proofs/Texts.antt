@@ -15,13 +15,13 @@ use Rattle.laws.specs.Digits.{short}
 use Rattle.laws.proofs.Tests.{by-test}
 use Rattle.numerals.specs.Numerals.{spell, minus}
 use Rattle.numerals.proofs.Spelling.{spell-length}
-use Rattle.spell.specs.Spell.{whole, wholeDigits, powerText, sizeDigits, leading, decimal, realFits}
+use Rattle.spell.specs.Spell.{wholeText, wholeDigits, powerText, sizeDigits, leading, decimal, realFits}
 
 -- no minus before a number that is not below zero
 pub not-below : (n : ℕ) → ltZ (pos n) (pos 0) ≡ false
 not-below n = le-ltb n 0 (omega arith)
 
-pub whole-length : (z : ℤ) → length (whole z) ≡ length (minus z) + wholeDigits (natAbs z)
+pub whole-length : (z : ℤ) → length (wholeText z) ≡ length (minus z) + wholeDigits (natAbs z)
 whole-length z =
     length-append (minus z) (spell (wholeDigits (natAbs z)) (natAbs z))
     ∙ ap (λ k. length (minus z) + k) (spell-length (wholeDigits (natAbs z)) (natAbs z))

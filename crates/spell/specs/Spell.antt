@@ -18,16 +18,16 @@ abbrev pub wholeDigits : ℕ → ℕ
 wholeDigits n = count 1 20 n
 
 -- ".. minus if negative"
-abbrev pub whole : ℤ → List ℕ
-whole z = minus z ++ numeral (natAbs z)
+abbrev pub wholeText : ℤ → List ℕ
+wholeText z = minus z ++ numeral (natAbs z)
 
 -- "Integers: right-justified .."
 unfoldable pub integerText : ℕ → ℤ → List ℕ
-integerText width z = justified width (whole z)
+integerText width z = justified width (wholeText z)
 
 -- its minus and digits are not longer than the field
 unfoldable pub integerFits : ℕ → ℤ → Bool
-integerFits width z = leb (length (whole z)) width
+integerFits width z = leb (length (wholeText z)) width
 
 -- a size of n billionths is 0.ddd × 10 ^ (its digits - 9): zero is given 9 digits, so that its power is +00
 abbrev pub sizeDigits : ℕ → ℕ

@@ -8,7 +8,7 @@ ghost use lib.IntN.{natAbs};
 ghost use lib.ListN.{length, getD, replicate};
 ghost use Rattle.numerals.specs.Numerals.{spell};
 ghost use Rattle.numerals.specs.Pieces.{Puts};
-ghost use Rattle.spell.specs.Spell.{justified, whole, leading, powerText, decimal, integerText, integerFits, realText, realFits};
+ghost use Rattle.spell.specs.Spell.{justified, wholeText, leading, powerText, decimal, integerText, integerFits, realText, realFits};
 
 // Magnitudes of 10 ^ 9 and more are written by no real: here in billionths.
 const LIMIT: u64 = 1000000000000000000;
@@ -58,7 +58,7 @@ fn place(text: &[u8], field: &mut [u8]) -> bool
 
 fn put_whole(text: &mut [u8], value: i64) -> usize
     requires { ⌜ 21 ≤ length (now text) ⌝ }
-    ensures { λ r. ⌜ Puts (now (text .entry)) 0 (whole value) (now (text .exit)) r ⌝ }
+    ensures { λ r. ⌜ Puts (now (text .entry)) 0 (wholeText value) (now (text .exit)) r ⌝ }
 {
     let first = numerals::put_minus(text, 0, value);
     numerals::put_number(text, first, number::size_of(value))

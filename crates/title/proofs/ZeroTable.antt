@@ -20,7 +20,7 @@ use Rattle.laws.proofs.Tables.{all-at, and-left, and-right}
 use Rattle.laws.proofs.Tests.{by-test}
 use Rattle.numerals.specs.Numerals.{count}
 use Rattle.frame.specs.declared.Header.{Header}
-use Rattle.spell.specs.Spell.{wholeDigits, whole as written, integerFits, realFits, integerText, realText}
+use Rattle.spell.specs.Spell.{wholeDigits, wholeText as written, integerFits, realFits, integerText, realText}
 use Rattle.spell.proofs.Texts.{whole-length}
 use Rattle.written.specs.Blocks.{Piece, piecesBy}
 use Rattle.written.specs.Blocks.Piece.{keeps, whole, real, spacing}

@@ -8,7 +8,7 @@ use Prim.Native.Nat.{_<_, _^_}
 use native.Mathlib.Omega.{arith}
 use Rattle.laws.proofs.Integers.{size-sum, size-minus, size-fits}
 use Rattle.laws.proofs.Signs.{as-unsigned}
-use Rattle.lattice.specs.Lattice.{within}
+use Rattle.lattice.specs.Lattice.{placeWithin}
 use Rattle.lattice.proofs.Cases.{real-small, within-minus, within-inside, within-past}
 use Rattle.lattice.proofs.from_first.Statement.{statement}
 use Rattle.lattice.proofs.from_first.Tie as tie
@@ -41,7 +41,7 @@ read c = toZ-ofZ (sub-d c) ∙ number-is c
 returns : tie.Need-returns
 returns c =
     let b = c .before in
-    sym (within-minus (kept b) (b .args .count) (c .if1 .taken)) ∙ ap (λ v. within v (b .args .count)) (read b)
+    sym (within-minus (kept b) (b .args .count) (c .if1 .taken)) ∙ ap (λ v. placeWithin v (b .args .count)) (read b)
 
 cast-i : tie.Need-cast-i
 cast-i c = as-unsigned tt _ (sfits-toZ (fits-ofZ (sub-d (c .before)))) (c .if1 .left)
@@ -49,12 +49,12 @@ cast-i c = as-unsigned tt _ (sfits-toZ (fits-ofZ (sub-d (c .before)))) (c .if1 .
 returns-2 : tie.Need-returns-2
 returns-2 c =
     let b = c .before .before in
-    sym (within-inside (kept b) (b .args .count) (c .before .if1 .left) (c .if2 .taken)) ∙ ap (λ v. within v (b .args .count)) (read b)
+    sym (within-inside (kept b) (b .args .count) (c .before .if1 .left) (c .if2 .taken)) ∙ ap (λ v. placeWithin v (b .args .count)) (read b)
 
 returns-3 : tie.Need-returns-3
 returns-3 c =
     let b = c .before .before in
-    sym (within-past (kept b) (b .args .count) (c .before .if1 .left) (c .if2 .left)) ∙ ap (λ v. within v (b .args .count)) (read b)
+    sym (within-past (kept b) (b .args .count) (c .before .if1 .left) (c .if2 .left)) ∙ ap (λ v. placeWithin v (b .args .count)) (read b)
 
 pub from-first-spec : {M : Type 1} → statement M
 from-first-spec = tie.close (tie.spec sub-d returns cast-i returns-2 returns-3)

@@ -12,7 +12,7 @@ use Prim.Native.Nat.{_%_}
 use lib.Dec.{leb}
 use Rattle.laws.proofs.Tests.{and-fails-first, and-fails-second}
 use Rattle.laws.proofs.Signs.{read-back}
-use Rattle.lattice.specs.Lattice.{isReal, within}
+use Rattle.lattice.specs.Lattice.{isReal, placeWithin}
 use Rattle.lattice.specs.Steps.{inSpacings}
 use Rattle.lattice.proofs.Cases.{place-cases, place-holds}
 use Rattle.lattice.proofs.Multiples.{spacings-real, multiple-is}
@@ -115,7 +115,7 @@ returns-5 c =
     let multiple = found (c .before) ∙ sym (multiple-is (a .z) (a .spacing)) in
     let rest = sym (ap (λ n. n % a .spacing) (size-is (g .before))) ∙ g .if4 .left in
     c .from-first .ensures
-    ∙ ap₂ (λ k f. within (k -ℤ f) (a .l .count)) multiple (toZ-ofZ (first-fits t))
+    ∙ ap₂ (λ k f. placeWithin (k -ℤ f) (a .l .count)) multiple (toZ-ofZ (first-fits t))
     ∙ sym
     (place-cases (a .l) (a .spacing) (a .z) true
     (place-holds (a .l) (a .spacing) (a .z) (place-good g) (first-good g) (g .before .before .if3 .left) rest))

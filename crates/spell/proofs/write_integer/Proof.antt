@@ -9,7 +9,7 @@ use Rattle.numerals.specs.Pieces.{Puts}
 use Rattle.numerals.proofs.Counts.{count-most}
 use Rattle.numerals.proofs.Numerals.{minus-short}
 use Rattle.numerals.proofs.Pieces.{front}
-use Rattle.spell.specs.Spell.{whole, integerText, integerFits}
+use Rattle.spell.specs.Spell.{wholeText, integerText, integerFits}
 use Rattle.spell.proofs.Texts.{whole-length}
 use Rattle.spell.proofs.Pieces.{placed}
 use Rattle.spell.proofs.write_integer.Statement.{statement}
@@ -19,9 +19,9 @@ abbrev start : tie.After-put-whole → tie.Start
 start c = c .before .before .before
 
 built : (c : tie.After-put-whole)
-    → Puts (replicate 24 0) 0 (whole (start c .args .value)) (c .put-whole .last .0) (c .put-whole .result)
+    → Puts (replicate 24 0) 0 (wholeText (start c .args .value)) (c .put-whole .last .0) (c .put-whole .result)
 built c =
-    subst (λ (z : ℤ). Puts (replicate 24 0) 0 (whole z) (c .put-whole .last .0) (c .put-whole .result))
+    subst (λ (z : ℤ). Puts (replicate 24 0) 0 (wholeText z) (c .put-whole .last .0) (c .put-whole .result))
     (toZ-ofZ (start c .fits .value)) (c .put-whole .ensures)
 
 slice-aggregate-put-whole : tie.Need-slice-aggregate-put-whole
