@@ -67,8 +67,8 @@ for sheet in "$here"/*.dem "$here"/*.DEM; do
         differ=1
     else
         say "$name: $cells cells agree, $(grep -c '^-2147483648$' "$work/ours" || true) of them void"
-        # Sent again, with the same record A as a template: GDAL reads the cells that were sent. The fifteen reals go out as they stand; blank, as
-        # here, GDAL cannot run the zone's field into the first of them (docs/MANUAL.md, "Sending a sheet").
+        # Sent again, with the same record A as a template: GDAL reads the cells that were sent. The fifteen reals go out as they stand; right in
+        # their fields, as here, GDAL does not run the zone's field into the first of them (docs/MANUAL.md, "Sending a sheet").
         { head -c 168 "$sheet"; zeros; tail -c +529 "$sheet" | head -c 496; while read -r cell; do four "$((cell & 0xffffffff))"; done <"$work/ours"; } |
             "$sender" >"$work/sent.dem"
         gdal_places "$work/sent.dem" | awk "$hundredths" >"$work/back"
