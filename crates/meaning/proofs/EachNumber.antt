@@ -20,7 +20,7 @@ use Rattle.number.specs.Integer.{integer}
 use Rattle.number.specs.Real.{real}
 use Rattle.number.specs.Grammar.{IntegerMeans, RealMeans}
 use Rattle.number.proofs.Grammar.{integer-means, real-means}
-use Rattle.field.specs.Field.{stretch, restFault, limits, inRange, inLimits, ranged, wholeAt, Judged, firstOf}
+use Rattle.field.specs.Field.{stretch, restFault, limits, inRange, inLimits, ranged, wholeAt}
 use Rattle.field.specs.declared.Limits.{Limits}
 use Rattle.heading.specs.Heading.{Name, limitsOf, headerOf}
 use Rattle.heading.specs.Heading.Name.{level, system, zone, ground, vertical, accuracy, spacing, height as tall, profiles}
@@ -30,7 +30,7 @@ use Rattle.sheet.proofs.HeaderA.{field-fine}
 use Rattle.sheet.proofs.RulesA.{sheet-fine}
 use Rattle.profile.specs.RecordB.{recordB, headFault, headFields, headOf, hundredths, isDatum, datumField}
 use Rattle.profile.specs.declared.record_b.Headed.the-variants.{Profile}
-use Rattle.profile.proofs.RecordLaws.{head-bounds}
+use Rattle.profile.proofs.RecordLaws.{head-bounds, all-read}
 use Rattle.ground.specs.Blocks.{blockAt, blocksIn}
 use Rattle.ground.specs.Posts.{judgePost, postsFault, void, voidPost, filledIn}
 use Rattle.ground.proofs.PostsRead.{passed, fault-on, fault-none}
@@ -40,7 +40,7 @@ use Rattle.meaning.specs.Rules.{firstBreach, inBlock, postsOfBlock, post
 use Rattle.meaning.specs.Exact.{AllMean, headerNumbers, headNumbers, Exact}
 use Rattle.meaning.proofs.Lists.{Kept, kept-front, kept-rest, kept-at}
 use Rattle.meaning.proofs.Placed.{first-kept, behind-kept, profile-kept, headRule, behindHead, behindPlace, header-says, header-read}
-use Rattle.meaning.proofs.EachPost.{begun-with}
+use Rattle.meaning.proofs.EachPost.{begun-with, filled-append}
 
 -- ---- readings of kind 0
 
@@ -143,10 +143,6 @@ filled-as f g a zero same = refl
 filled-as f g a (suc n) same =
     ap₂ (λ (b : Bool) (m : ℕ). cond b 0 1 + m) (same a (omega arith) (omega arith))
     (filled-as f g (suc a) n (λ i p q. same i (omega (arith, p)) (omega (arith, q))))
-
-filled-append : (xs ys : List ℤ) → filledIn (xs ++ ys) ≡ filledIn xs + filledIn ys
-filled-append [] ys = omega arith
-filled-append (x ∷ xs) ys = omega (arith, filled-append xs ys)
 
 posts-append : (xs ys : List ℤ) → filledPosts (xs ++ ys) ≡ filledPosts xs + filledPosts ys
 posts-append [] ys = omega arith
@@ -302,18 +298,6 @@ hundredths-back (negsuc n) e =
     let m = minus-parts (pos k) in
     let f = multiple-parts (negℤ (pos k)) (10 ^ 7) in
     parts-same (negℤ (pos k) *ℤ pos (10 ^ 7)) (negsuc n) (omega (arith, f .0, f .1, m .0, m .1, d, e))
-
--- no fault among a list of judged fields: each has kind 0
-abbrev AllRead : List Judged → Type 0
-AllRead [] = Unit {0}
-AllRead (f ∷ fs) = (f .reading .kind ≡ 0) × AllRead fs
-
-all-read : (fs : List Judged) → firstOf fs .kind ≡ 0 → AllRead fs
-all-read [] z = tt
-all-read (f ∷ fs) z =
-    let go = all-read fs in
-    by-test (eqb (f .reading .kind) 0) (λ e. (eqb-true (f .reading .kind) 0 e, go (rw e at z)))
-    (λ e. absurd (eqb-false (f .reading .kind) 0 e (rw e at z)))
 
 datum-says : (s : List ℕ) → datumField (real s) .kind ≡ 0 → RealMeans s (hundredths (real s .value) *ℤ pos (10 ^ 7))
 datum-says s z =

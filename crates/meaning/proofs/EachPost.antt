@@ -255,7 +255,7 @@ total-rows f g m k (suc n) h =
 abbrev filledOne : ℤ → ℕ
 filledOne h = cond (sameZ h void) 0 1
 
-filled-append : (xs ys : List ℤ) → filledIn (xs ++ ys) ≡ filledIn xs + filledIn ys
+pub filled-append : (xs ys : List ℤ) → filledIn (xs ++ ys) ≡ filledIn xs + filledIn ys
 filled-append [] ys = omega arith
 filled-append (x ∷ xs) ys = omega (arith, filled-append xs ys)
 

@@ -23,11 +23,11 @@ use Rattle.profile.specs.declared.record_b.Head.{Head}
 use Rattle.profile.specs.declared.record_b.Headed.the-variants.{Profile, Refused}
 
 -- every field's reading has kind 0
-abbrev AllRead : List Judged → Type 0
+abbrev pub AllRead : List Judged → Type 0
 AllRead [] = Unit {0}
 AllRead (j ∷ js) = (j .reading .kind ≡ 0) × AllRead js
 
-all-read : (js : List Judged) → firstOf js .kind ≡ 0 → AllRead js
+pub all-read : (js : List Judged) → firstOf js .kind ≡ 0 → AllRead js
 all-read [] z = tt
 all-read (j ∷ js) z =
     let go = all-read js in
