@@ -18,7 +18,7 @@ use Rattle.sheet.specs.declared.Checked.the-variants.{Sheet, Refused}
 use Rattle.sheet.proofs.RulesA.{sheet-header}
 use Rattle.written.specs.Blocks.{sheetCells}
 use Rattle.written.specs.Cells.{sendable}
-use Rattle.written.specs.Sending.{gridFault, sheetFault}
+use Rattle.written.specs.Sending.{gridObjection, sheetObjection}
 use Rattle.written.proofs.SheetPasses.{refused-kind}
 use Rattle.columns.specs.Judging.{judgedBy}
 use Rattle.columns.specs.declared.judging.Judged.the-variants.{Good, Bad}
@@ -33,16 +33,16 @@ cells-most h obeys columns rows e f =
 -- ---- the grid
 
 module _ (h : Header) (grid : List ℤ) where
-  pub grid-short : length grid < cellsOf h → Bad 12 0 ≡ judgedBy h (gridFault h grid)
+  pub grid-short : length grid < cellsOf h → Bad 12 0 ≡ judgedBy h (gridObjection h grid)
   grid-short k = rw (lt-ltb (length grid) (cellsOf h) k)
 
   module _ (room : cellsOf h ≤ length grid) where
-    pub cell-stops : (n : ℕ) → n ≡ sendable (zOf h) (sheetCells h grid) → n < cellsOf h → Bad 13 n ≡ judgedBy h (gridFault h grid)
+    pub cell-stops : (n : ℕ) → n ≡ sendable (zOf h) (sheetCells h grid) → n < cellsOf h → Bad 13 n ≡ judgedBy h (gridObjection h grid)
     cell-stops n e k =
         let t : ltb (sendable (zOf h) (sheetCells h grid)) (cellsOf h) ≡ true = lt-ltb (sendable (zOf h) (sheetCells h grid)) (cellsOf h) (omega (arith, e, k)) in
         ap (Bad 13) e ∙ rw (le-ltb (length grid) (cellsOf h) room, t)
 
-    pub grid-good : (n : ℕ) → n ≡ sendable (zOf h) (sheetCells h grid) → cellsOf h ≤ n → Good h ≡ judgedBy h (gridFault h grid)
+    pub grid-good : (n : ℕ) → n ≡ sendable (zOf h) (sheetCells h grid) → cellsOf h ≤ n → Good h ≡ judgedBy h (gridObjection h grid)
     grid-good n e k =
         let t : ltb (sendable (zOf h) (sheetCells h grid)) (cellsOf h) ≡ false = le-ltb (sendable (zOf h) (sheetCells h grid)) (cellsOf h) (omega (arith, e, k)) in
         rw (le-ltb (length grid) (cellsOf h) room, t)
@@ -50,19 +50,19 @@ module _ (h : Header) (grid : List ℤ) where
 -- ---- the template
 
 module _ (template : List ℕ) (grid : List ℤ) where
-  pub template-length : (length template ≡ 1024 → ⊥) → Bad 1 1 ≡ judgedBy (headerOf template) (sheetFault template grid)
-  unfolding sheetFault
+  pub template-length : (length template ≡ 1024 → ⊥) → Bad 1 1 ≡ judgedBy (headerOf template) (sheetObjection template grid)
+  unfolding sheetObjection
   template-length n = rw (ne-eqb (length template) 1024 n)
 
   module _ (l : length template ≡ 1024) where
     pub template-refused : (kind byte : ℕ) → recordA template ≡ Refused kind byte
-        → Bad kind byte ≡ judgedBy (headerOf template) (sheetFault template grid)
-    unfolding sheetFault
+        → Bad kind byte ≡ judgedBy (headerOf template) (sheetObjection template grid)
+    unfolding sheetObjection
     template-refused kind byte e = rw (eq-eqb (length template) 1024 l, e, ne-eqb kind 0 (refused-kind template kind byte e))
 
     pub template-sheet : (h : Header) → recordA template ≡ Sheet h
-        → judgedBy h (gridFault h grid) ≡ judgedBy (headerOf template) (sheetFault template grid)
-    unfolding sheetFault
+        → judgedBy h (gridObjection h grid) ≡ judgedBy (headerOf template) (sheetObjection template grid)
+    unfolding sheetObjection
     template-sheet h e =
         rw (eq-eqb (length template) 1024 l, e)
-        (ap (λ (g : Header). judgedBy g (gridFault h grid)) (sheet-header template e))
+        (ap (λ (g : Header). judgedBy g (gridObjection h grid)) (sheet-header template e))

@@ -5,7 +5,7 @@ use sheet::Checked;
 ghost use mathlib.Core.Path.{_≡_};
 ghost use mathlib.Core.Bool.{true};
 ghost use Rattle.heading.specs.Heading.{headerOf, headerObeys};
-ghost use Rattle.written.specs.Sending.{gridFault, sheetFault};
+ghost use Rattle.written.specs.Sending.{gridObjection, sheetObjection};
 ghost use Rattle.columns.specs.Judging.{judgedBy};
 
 // A sheet that can be sent, or document 01's kind and number of what stands against it.
@@ -17,7 +17,7 @@ pub enum Judged {
 // "12 (0), 13 first cell .. (cell)"
 fn judge_grid(h: Header, grid: &[i32]) -> Judged
     requires { ⌜ headerObeys h ≡ true ⌝ }
-    ensures { λ r. ⌜ r ≡ judgedBy h (gridFault h (now (grid .entry))) ⌝ }
+    ensures { λ r. ⌜ r ≡ judgedBy h (gridObjection h (now (grid .entry))) ⌝ }
 {
     let columns = frame::columns(h) as usize;
     let rows = frame::rows(h) as usize;
@@ -34,7 +34,7 @@ fn judge_grid(h: Header, grid: &[i32]) -> Judged
 
 // "1 template length (number 1), 5-10 template (byte)", then the grid.
 pub fn judge_sheet(template: &[u8], grid: &[i32]) -> Judged
-    ensures { λ r. ⌜ r ≡ judgedBy (headerOf (now (template .entry))) (sheetFault (now (template .entry)) (now (grid .entry))) ⌝ }
+    ensures { λ r. ⌜ r ≡ judgedBy (headerOf (now (template .entry))) (sheetObjection (now (template .entry)) (now (grid .entry))) ⌝ }
 {
     if template.len() != 1024 {
         return Judged::Bad(1, 1);

@@ -2,7 +2,7 @@
 use mathlib.Core.Bool.{true, false, Bool, cond, not}
 use mathlib.Core.List.{List}
 use mathlib.Core.Path.{_≡_, sym, _∙_, refl}
-use Prim.Native.Nat.{ℕ, _+_, _-_, _/_, _%_, _≤_, _<_, min}
+use Prim.Native.Nat.{ℕ, _+_, _-_, _/_, _%_, _^_, _≤_, _<_, min}
 use native.Mathlib.Omega.{arith}
 use lib.IntN.{ℤ, natAbs}
 use lib.ListN.{length, getD}
@@ -306,10 +306,37 @@ Cells (wrong kind block byte) = Unit {0}
 Cells (begins h) = Unit {0}
 Cells (fills after at hs) = (i : ℕ) → i < length hs → Cell (getD hs i void)
 
--- the session that a verdict leaves is sound, and so are the cells
+-- the numbers of which no clause speaks until a profile has begun: such as a caller can keep in 64 bits with a sign
+pub record Idle (s : Session) : Type 0 where
+  pub column : s .column < 2 ^ 63
+  pub row : s .profile .row < 2 ^ 63
+  pub read : s .profile .read < 2 ^ 63
+  pub filled : s .profile .filled < 2 ^ 63
+
+-- the session that a verdict leaves is sound, and so are the cells; its idle numbers grow no further
 record Fine (s : Session) (v : Verdict) : Type 0 where
   is : sound (answerOf s v .session) ≡ true
   cells : Cells v
+  idle : Idle s → Idle (answerOf s v .session)
+
+idle-begun : (h : Header) → Idle (begun h)
+idle-begun h = record { column = omega arith; row = omega arith; read = omega arith; filled = omega arith }
+
+module _ (s : Session) (column : ℕ) (p : Profile) (hs : List ℤ) (g : Grows s column p hs) where
+  column-few : column < 2 ^ 63
+  column-few = omega (arith, g .column-room, header-facts (s .header) (g .facts .header) .columns .1)
+
+  idle-filled : Idle (filledSession s column p hs)
+  idle-filled =
+      record {
+        column = column-few;
+        row = omega (arith, g .row-room, header-facts (s .header) (g .facts .header) .rows .1);
+        read = omega (arith, g .within, g .posts-most);
+        filled = omega (arith, profile-few s column p hs g, g .within, g .posts-most);
+      }
+
+  idle-closed : Idle (closedSession (filledSession s column p hs))
+  idle-closed = record { column = column-few; row = omega arith; read = omega arith; filled = omega arith }
 
 pick : {s : Session} (b : Bool) {v w : Verdict} → (b ≡ true → Fine s v) → (b ≡ false → Fine s w) → Fine s (cond b v w)
 pick true f g = f refl
@@ -317,15 +344,25 @@ pick false f g = g refl
 
 module _ (s : Session) (t : sound s ≡ true) where
   kept : (kind block byte : ℕ) → Fine s (wrong kind block byte)
-  kept kind block byte = record { is = t; cells = tt }
+  kept kind block byte = record { is = t; cells = tt; idle = λ k. k }
 
   filling-fine : (number column : ℕ) (p : Profile) (hs : List ℤ) → Grows s column p hs → Fine s (filling s number column p hs)
   filling-fine number column p hs g =
       pick (ltb (p .read + length hs) (p .posts))
-      (λ e. record { is = sound-filled s column p hs g (ltb-true (p .read + length hs) (p .posts) e); cells = g .cells })
+      (λ e.
+      record {
+        is = sound-filled s column p hs g (ltb-true (p .read + length hs) (p .posts) e);
+        cells = g .cells;
+        idle = λ k. idle-filled s column p hs g;
+      })
       (λ e.
       pick (eqb (closeFault (number - openBlocks s) (filledSession s column p hs) .kind) 0)
-      (λ k. record { is = sound-closed s column p hs g (ltb-false (p .read + length hs) (p .posts) e); cells = g .cells })
+      (λ k.
+      record {
+        is = sound-closed s column p hs g (ltb-false (p .read + length hs) (p .posts) e);
+        cells = g .cells;
+        idle = λ i. idle-closed s column p hs g;
+      })
       (λ k. kept _ _ _))
 
   beginning-fine : (room : Room) (block : List ℕ) → Fine s (beginning room (recordA block))
@@ -333,7 +370,7 @@ module _ (s : Session) (t : sound s ≡ true) where
     where
       go : (c : Checked) → recordA block ≡ c → Fine s (beginning room c)
       go (NoSheet kind byte) e = kept kind 0 byte
-      go (Sheet h) e = pick (tooShort room h) (λ k. kept 12 0 0) (λ k. record { is = sound-begun block h e; cells = tt })
+      go (Sheet h) e = pick (tooShort room h) (λ k. kept 12 0 0) (λ k. record { is = sound-begun block h e; cells = tt; idle = λ i. idle-begun h })
 
   module _ (due : 1 ≤ s .taken) (number : ℕ) (block : List ℕ) where
     facts : Begun s
@@ -395,7 +432,13 @@ module _ (s : Session) (t : sound s ≡ true) where
         (λ k.
         let all : s .closed ≡ s .header .profiles = omega (arith, facts .closed, ltb-false (s .closed) (s .header .profiles) k) in
         let u = unfinished-is c all in
-        pick (eqb (recordC block .kind) 0) (λ z. record { is = sound-finished s facts idle all (u .0) (u .1); cells = λ i k. absurd (omega (arith, k)) })
+        pick (eqb (recordC block .kind) 0)
+        (λ z.
+        record {
+          is = sound-finished s facts idle all (u .0) (u .1);
+          cells = λ i k. absurd (omega (arith, k));
+          idle = λ i. record { column = i .column; row = i .row; read = i .read; filled = i .filled };
+        })
         (λ z. kept _ _ _)))
 
   verdict-fine : (number : ℕ) (block : List ℕ) (room : Room) → Fine s (verdictOf s number block room)
@@ -405,7 +448,7 @@ module _ (s : Session) (t : sound s ≡ true) where
       (λ a.
       pick (not (sound s)) (λ b. kept 2 number 0)
       (λ b.
-      pick (ltb number (s .taken)) (λ d. record { is = t; cells = tt })
+      pick (ltb number (s .taken)) (λ d. record { is = t; cells = tt; idle = λ k. k })
       (λ d.
       pick (ltb (s .taken) number) (λ e. kept 3 number 0)
       (λ e.
@@ -430,6 +473,11 @@ taken-out s number block lent t = taken-bound (deliverOf s number block lent .se
 pub posts-out : (s : Session) (number : ℕ) (block : List ℕ) (lent : Lent) → sound s ≡ true
     → deliverOf s number block lent .session .posts ≤ 4194304
 posts-out s number block lent t = posts-bound (deliverOf s number block lent .session) (sound-out s number block lent t)
+
+-- numbers that can be kept stay such
+pub idle-out : (s : Session) (number : ℕ) (block : List ℕ) (lent : Lent) → sound s ≡ true → Idle s
+    → Idle (deliverOf s number block lent .session)
+idle-out s number block lent t = verdict-fine s t number block (roomOf lent) .idle
 
 pub cells-out : (s : Session) (number : ℕ) (block : List ℕ) (lent : Lent) → sound s ≡ true
     → Cells (verdictOf s number block (roomOf lent))

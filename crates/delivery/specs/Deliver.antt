@@ -1,5 +1,5 @@
 -- Document 01, "What a delivery answers": what one delivery answers, for every session, number, block and grid.
-use mathlib.Core.List.{List, [], _++_}
+use mathlib.Core.List.{List, [], _∷_, _++_}
 use Prim.Native.Nat.{ℕ, _^_, _+_, _-_, min, _*_}
 use lib.IntN.{ℤ, pos, _*ℤ_}
 use mathlib.Core.Bool.{cond, Bool, false, not}
@@ -27,6 +27,7 @@ use Rattle.session.specs.Session.{noProfile, openBlocks, busy, sound, complete,
 use Rattle.ground.specs.declared.Tally.{Tally}
 use Rattle.ground.specs.Posts.{tallyAll, postsOf, heights, postsRestFault, void}
 use Rattle.delivery.specs.declared.Refusal.{Refusal}
+use Rattle.delivery.specs.declared.Answer.{Answer}
 use Rattle.delivery.specs.declared.Answer.the-variants.{Taken, Held, Refused}
 use Rattle.delivery.specs.declared.Delivered.{Delivered}
 
@@ -277,6 +278,17 @@ answerOf s again = record { answer = Held; session = s }
 answerOf s (wrong kind block byte) = record { answer = Refused kind block byte; session = s }
 answerOf s (begins h) = record { answer = Taken; session = begun h }
 answerOf s (fills after at hs) = record { answer = Taken; session = after }
+
+-- the numbers of each case: 0 taken, 255 held, else document 01's kind; beside it block and byte, which are 0 where nothing is refused
+abbrev pub answerKind : Answer → ℕ
+answerKind Taken = 0
+answerKind Held = 255
+answerKind (Refused kind block byte) = kind
+
+abbrev pub answerPlace : Answer → List ℕ
+answerPlace Taken = 0 ∷ (0 ∷ [])
+answerPlace Held = 0 ∷ (0 ∷ [])
+answerPlace (Refused kind block byte) = block ∷ (byte ∷ [])
 
 -- "Taking block 0 sets exactly those cells void."
 abbrev pub lentBy : Lent → Verdict → Lent

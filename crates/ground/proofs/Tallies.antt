@@ -14,7 +14,7 @@ use Rattle.laws.specs.Sign.{sameZ, lesser, greater}
 use Rattle.laws.proofs.Integers.{parts-le, le-through}
 use Rattle.laws.proofs.Tests.{clash}
 use Rattle.laws.proofs.SameNumbers.{sameZ-is}
-use Rattle.ground.specs.Posts.{tallyOne, tallyAll, void, filledIn, noTally}
+use Rattle.ground.specs.Posts.{tallyOne, tallyAll, void, filledIn}
 use Rattle.ground.specs.declared.Tally.{Tally}
 use Rattle.ground.proofs.Heights.{Cell}
 
@@ -68,9 +68,6 @@ pub record InOrder (low high : ℤ) : Type 0 where
 -- "where any are filled"
 abbrev pub Fair : Tally → Type 0
 Fair t = 0 < t .filled → InOrder (t .low) (t .high)
-
-pub none-fair : Fair noTally
-none-fair k = record { ordered = refl; low-most = omega arith; high-most = omega arith }
 
 alone : (h : ℤ) → natAbs h ≤ 4276700 → InOrder h h
 alone h k = record { ordered = told h h (≤ℤ-refl h); low-most = k; high-most = k }

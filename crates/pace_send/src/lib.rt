@@ -2,7 +2,7 @@
 use written::Sent;
 ghost use mathlib.Core.Path.{_≡_};
 ghost use lib.ListN.{length};
-ghost use Rattle.written.specs.Sending.{blockFault, blockAfter, countOf, sentBy, sheetSentFault, sheetAfter};
+ghost use Rattle.written.specs.Sending.{blockObjection, blockAfter, countOf, sentBy, sheetSentObjection, sheetAfter};
 ghost use Rattle.pace_send.specs.Kinds.{kindOf};
 
 // 0 for written.
@@ -29,7 +29,7 @@ pub extern "C" fn dem_write_block(
     number: u64,
     block: &mut [u8],
 ) -> u32
-    ensures { λ r. ⌜ (r ≡ kindOf (sentBy (blockFault (now (template .entry)) (now (grid .entry)) number (length (now (block .entry)))))) × (now (block .exit) ≡ blockAfter (now (template .entry)) (now (grid .entry)) number (now (block .entry))) ⌝ }
+    ensures { λ r. ⌜ (r ≡ kindOf (sentBy (blockObjection (now (template .entry)) (now (grid .entry)) number (length (now (block .entry)))))) × (now (block .exit) ≡ blockAfter (now (template .entry)) (now (grid .entry)) number (now (block .entry))) ⌝ }
 {
     let sent = send::write_block(template, grid, number, block);
     kind_of(sent)
@@ -37,7 +37,7 @@ pub extern "C" fn dem_write_block(
 
 #[no_mangle]
 pub extern "C" fn dem_write_sheet(template: &[u8], grid: &[i32], out: &mut [u8]) -> u32
-    ensures { λ r. ⌜ (r ≡ kindOf (sentBy (sheetSentFault (now (template .entry)) (now (grid .entry)) (length (now (out .entry)))))) × (now (out .exit) ≡ sheetAfter (now (template .entry)) (now (grid .entry)) (now (out .entry))) ⌝ }
+    ensures { λ r. ⌜ (r ≡ kindOf (sentBy (sheetSentObjection (now (template .entry)) (now (grid .entry)) (length (now (out .entry)))))) × (now (out .exit) ≡ sheetAfter (now (template .entry)) (now (grid .entry)) (now (out .entry))) ⌝ }
 {
     let sent = send::write_sheet(template, grid, out);
     kind_of(sent)

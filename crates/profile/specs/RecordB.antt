@@ -57,7 +57,9 @@ headOf block =
 abbrev pub headFault : ℕ → List ℕ → Fault
 headFault number block = cond (eqb (length block) 1024) (firstOf (headFields number block)) (fault 1 0)
 
+-- the cases of the answer, with document 01's kind and byte
+abbrev pub headedBy : Fault → Head → Headed
+headedBy f h = cond (eqb (f .kind) 0) (Profile h) (Refused (f .kind) (f .byte))
+
 unfoldable pub recordB : ℕ → List ℕ → Headed
-recordB number block =
-    cond (eqb (headFault number block .kind) 0) (Profile (headOf block))
-    (Refused (headFault number block .kind) (headFault number block .byte))
+recordB number block = headedBy (headFault number block) (headOf block)

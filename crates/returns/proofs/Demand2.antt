@@ -31,7 +31,7 @@ use Rattle.meaning.proofs.Desks.{Desk, desk, atFirst, afterAll, allAnswered, ca
 use Rattle.written.specs.declared.Sent.the-variants.{Written}
 use Rattle.written.specs.Cells.{columnCells, firstRow, cellsSent, blockCount}
 use Rattle.written.specs.Blocks.{blockSent}
-use Rattle.written.specs.Sending.{blockFault, sentBy, sheetSentFault, sentText, countOf}
+use Rattle.written.specs.Sending.{blockObjection, sentBy, sheetSentObjection, sentText, countOf}
 use Rattle.written.proofs.ColumnsSent.{cell-sent}
 use Rattle.written.proofs.SheetSent.{column-cell, sheet-cell, sheet-length, start-from}
 use Rattle.returns.specs.Writers.{Writing, Wrote, SheetWriting, WroteSheet, CanBeSent, Accepts, Listed}
@@ -53,9 +53,9 @@ use Rattle.meaning.specs.PaperSheet.{paperA, paperCells}
 pub one-writing : (template : List ℕ) (grid : List ℤ) (w v : Writing) → Wrote template grid w → Wrote template grid v
     → w .number ≡ v .number → w .lent ≡ v .lent → (w .returned ≡ v .returned) × (w .left ≡ v .left)
 one-writing template grid w v p q n l = (
-  p .answers ∙ ap₂ (λ (m : ℕ) (b : List ℕ). sentBy (blockFault template grid m (length b))) n l ∙ sym (q .answers),
+  p .answers ∙ ap₂ (λ (m : ℕ) (b : List ℕ). sentBy (blockObjection template grid m (length b))) n l ∙ sym (q .answers),
   p .writes
-      ∙ ap₂ (λ (m : ℕ) (b : List ℕ). cond (eqb (blockFault template grid m (length b) .kind) 0) (blockSent template (headerOf template) grid m) b) n l
+      ∙ ap₂ (λ (m : ℕ) (b : List ℕ). cond (eqb (blockObjection template grid m (length b) .kind) 0) (blockSent template (headerOf template) grid m) b) n l
       ∙ sym (q .writes),
 )
 
@@ -66,9 +66,9 @@ module _ (template : List ℕ) (grid : List ℤ) (w : Writing) (promised : Wrote
   pub answered-as-listed : Listed template grid (w .number) (length (w .lent)) (w .returned)
   answered-as-listed = rw (promised .answers) (Refusals.listed template grid (w .number) (length (w .lent)))
 
-  fine-or-not : (w .returned ≡ Written) ↔ (blockFault template grid (w .number) (length (w .lent)) .kind ≡ 0)
+  fine-or-not : (w .returned ≡ Written) ↔ (blockObjection template grid (w .number) (length (w .lent)) .kind ≡ 0)
   fine-or-not =
-      Refusals.written-fine (w .returned) (blockFault template grid (w .number) (length (w .lent))) (promised .answers)
+      Refusals.written-fine (w .returned) (blockObjection template grid (w .number) (length (w .lent))) (promised .answers)
 
   pub accepted-exactly : (w .returned ≡ Written) ↔ Accepts template grid (w .number) (w .lent)
   accepted-exactly = (
@@ -79,14 +79,14 @@ module _ (template : List ℕ) (grid : List ℤ) (w : Writing) (promised : Wrote
   -- a refusal leaves the lent block as it was
   pub refused-keeps : (w .returned ≡ Written → ⊥) → w .left ≡ w .lent
   refused-keeps bad =
-      let f = blockFault template grid (w .number) (length (w .lent)) in
+      let f = blockObjection template grid (w .number) (length (w .lent)) in
       let k : eqb (f .kind) 0 ≡ false = ne-eqb (f .kind) 0 (λ z. bad (fine-or-not .1 z)) in
       promised .writes ∙ (λ i. cond (k i) (blockSent template (headerOf template) grid (w .number)) (w .lent))
 
   -- an accepted block is the one that document 01 tells
   pub accepted-writes : Accepts template grid (w .number) (w .lent) → w .left ≡ blockSent template (headerOf template) grid (w .number)
   accepted-writes a =
-      let f = blockFault template grid (w .number) (length (w .lent)) in
+      let f = blockObjection template grid (w .number) (length (w .lent)) in
       let k : eqb (f .kind) 0 ≡ true = eq-eqb (f .kind) 0 (fine-or-not .0 (accepted-exactly .1 a)) in
       promised .writes ∙ (λ i. cond (k i) (blockSent template (headerOf template) grid (w .number)) (w .lent))
 
@@ -199,8 +199,8 @@ module _ (template : List ℕ) (grid : List ℤ) (w : SheetWriting) (promised : 
   abbrev blocks : ℕ
   blocks = blockCount (headerOf template) grid
 
-  fine-or-not-sheet : (w .returned ≡ Written) ↔ (sheetSentFault template grid (length (w .lent)) .kind ≡ 0)
-  fine-or-not-sheet = Refusals.written-fine (w .returned) (sheetSentFault template grid (length (w .lent))) (promised .answers)
+  fine-or-not-sheet : (w .returned ≡ Written) ↔ (sheetSentObjection template grid (length (w .lent)) .kind ≡ 0)
+  fine-or-not-sheet = Refusals.written-fine (w .returned) (sheetSentObjection template grid (length (w .lent))) (promised .answers)
 
   -- accepted exactly where the sheet can be sent and the buffer has its blocks' bytes
   pub sheet-accepted-exactly : (w .returned ≡ Written) ↔ (CanBeSent template grid × (length (w .lent) ≡ 1024 * blocks))
@@ -228,14 +228,14 @@ module _ (template : List ℕ) (grid : List ℤ) (w : SheetWriting) (promised : 
   -- a refusal leaves the buffer as it was
   pub sheet-refused-keeps : (w .returned ≡ Written → ⊥) → w .left ≡ w .lent
   sheet-refused-keeps bad =
-      let f = sheetSentFault template grid (length (w .lent)) in
+      let f = sheetSentObjection template grid (length (w .lent)) in
       let k : eqb (f .kind) 0 ≡ false = ne-eqb (f .kind) 0 (λ z. bad (fine-or-not-sheet .1 z)) in
       promised .writes ∙ (λ i. cond (k i) (sentText template grid (countOf template grid)) (w .lent))
 
   -- what is accepted is the single blocks, joined
   pub sheet-is-blocks : w .returned ≡ Written → w .left ≡ joined (map (blockSent template (headerOf template) grid) (below blocks))
   sheet-is-blocks e =
-      let f = sheetSentFault template grid (length (w .lent)) in
+      let f = sheetSentObjection template grid (length (w .lent)) in
       let k : eqb (f .kind) 0 ≡ true = eq-eqb (f .kind) 0 (fine-or-not-sheet .0 e) in
       let n : countOf template grid ≡ blocks = Whole.count-sent template grid (sheet-accepted-exactly .0 e .0) in
       promised .writes

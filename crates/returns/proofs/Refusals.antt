@@ -23,7 +23,7 @@ use Rattle.written.specs.declared.Sent.{Sent}
 use Rattle.written.specs.declared.Sent.the-variants.{Written, Refused}
 use Rattle.written.specs.Cells.{canSend, sendable, blockCount}
 use Rattle.written.specs.Blocks.{sheetCells}
-use Rattle.written.specs.Sending.{Fault, fault, sentBy, first, gridFault, checkedFault, sheetFault, numberFault, blockFault}
+use Rattle.written.specs.Sending.{Objection, objection, sentBy, first, gridObjection, checkedObjection, sheetObjection, numberObjection, blockObjection}
 use Rattle.written.proofs.SheetSent.{sheet-cell, sheet-length, cell-sends}
 use Rattle.written.proofs.SheetPasses.{refused-kind, grid-passes}
 use Rattle.returns.specs.Writers.{CanBeSent, FirstUnsent, Listed, block-length, template-length, template-rule, grid-short, cell-unsent, number-past, accepted}
@@ -58,14 +58,14 @@ first-unsent h grid room lt =
 -- ---- the writer's answer
 
 module _ (template : List ℕ) (grid : List ℤ) (number bytes : ℕ) where
-  by-number : bytes ≡ 1024 → CanBeSent template grid → Listed template grid number bytes (sentBy (numberFault template grid number))
+  by-number : bytes ≡ 1024 → CanBeSent template grid → Listed template grid number bytes (sentBy (numberObjection template grid number))
   by-number one can =
       let count = blockCount (headerOf template) grid in
       by-test (leb count number) (λ e. rw e (number-past one can (leb-true count number e)))
       (λ e. rw e (accepted one can (leb-false count number e)))
 
   by-grid : bytes ≡ 1024 → recordA template ≡ Sheet (headerOf template)
-      → Listed template grid number bytes (sentBy (first (gridFault (headerOf template) grid) (numberFault template grid number)))
+      → Listed template grid number bytes (sentBy (first (gridObjection (headerOf template) grid) (numberObjection template grid number)))
   by-grid one sheet =
       let h = headerOf template in
       let n = sendable (zOf h) (sheetCells h grid) in
@@ -78,17 +78,17 @@ module _ (template : List ℕ) (grid : List ℤ) (number bytes : ℕ) where
       rw (a, b) (by-number one record { sheet = sheet; room = room; cells = cell-sends h grid room (zOf h) all })))
 
   by-template : bytes ≡ 1024 → length template ≡ 1024 → (c : Checked) → recordA template ≡ c
-      → Listed template grid number bytes (sentBy (first (checkedFault c grid) (numberFault template grid number)))
+      → Listed template grid number bytes (sentBy (first (checkedObjection c grid) (numberObjection template grid number)))
   by-template one long (NoSheet kind byte) e =
       let k : eqb kind 0 ≡ false = ne-eqb kind 0 (refused-kind template kind byte e) in
-      let told : sentBy (first (fault kind byte) (numberFault template grid number)) ≡ Refused kind byte = rw (k, k) in
+      let told : sentBy (first (objection kind byte) (numberObjection template grid number)) ≡ Refused kind byte = rw (k, k) in
       rw told (template-rule one long kind byte e)
   by-template one long (Sheet k) e =
       let same : k ≡ headerOf template = sheet-header template e in
       rw same (by-grid one (e ∙ ap Sheet same))
 
-  pub listed : Listed template grid number bytes (sentBy (blockFault template grid number bytes))
-  unfolding blockFault sheetFault
+  pub listed : Listed template grid number bytes (sentBy (blockObjection template grid number bytes))
+  unfolding blockObjection sheetObjection
   listed =
       by-test (eqb bytes 1024)
       (λ a.
@@ -98,7 +98,7 @@ module _ (template : List ℕ) (grid : List ℤ) (number bytes : ℕ) where
       (λ a. rw a (block-length (eqb-false bytes 1024 a)))
 
 -- written exactly where nothing is wrong
-pub written-fine : (r : Sent) (f : Fault) → r ≡ sentBy f → (r ≡ Written) ↔ (f .kind ≡ 0)
+pub written-fine : (r : Sent) (f : Objection) → r ≡ sentBy f → (r ≡ Written) ↔ (f .kind ≡ 0)
 written-fine r f e = (to, λ z. e ∙ (let k : eqb (f .kind) 0 ≡ true = eq-eqb (f .kind) 0 z in rw k))
   where
     to : r ≡ Written → f .kind ≡ 0

@@ -34,7 +34,7 @@ use Rattle.meaning.specs.Deliveries.{Delivery}
 use Rattle.meaning.proofs.Desks.{Desk, answered}
 use Rattle.written.specs.Cells.{canSend, sendable, voidsBefore, upToLast, profileCells, startAt, columnFor, cellsSent}
 use Rattle.written.specs.declared.Sent.the-variants.{Written}
-use Rattle.written.specs.Sending.{fault, sentBy, sheetFault, blockFault}
+use Rattle.written.specs.Sending.{objection, sentBy, sheetObjection, blockObjection}
 use Rattle.written.specs.Blocks.{piecesBy, blockZero, blockSent, profileBlock, sheetCells, piecesA, xSent, ySent}
 use Rattle.written.proofs.PiecesSent.{pieceFits, CornerFits, header-reals, zero-fits, all-fit}
 use Rattle.written.proofs.HeadSent.{HeadFits}
@@ -49,12 +49,12 @@ abbrev zeros : List ℕ
 zeros = replicate 1024 0
 
 -- blocks 0 and 1 are accepted
-paper-fine0 : blockFault paperA paperCells 0 1024 ≡ fault 0 0
-unfolding blockFault sheetFault recordA fields headerOf latticeOf integer real billionths places short paperA canSend sendable startAt profileCells upToLast voidsBefore
+paper-fine0 : blockObjection paperA paperCells 0 1024 ≡ objection 0 0
+unfolding blockObjection sheetObjection recordA fields headerOf latticeOf integer real billionths places short paperA canSend sendable startAt profileCells upToLast voidsBefore
 paper-fine0 = refl
 
-paper-fine1 : blockFault paperA paperCells 1 1024 ≡ fault 0 0
-unfolding blockFault sheetFault recordA fields headerOf latticeOf integer real billionths places short paperA canSend sendable startAt profileCells upToLast voidsBefore
+paper-fine1 : blockObjection paperA paperCells 1 1024 ≡ objection 0 0
+unfolding blockObjection sheetObjection recordA fields headerOf latticeOf integer real billionths places short paperA canSend sendable startAt profileCells upToLast voidsBefore
 paper-fine1 = refl
 
 -- block 0 begins with the `P` of its name, block 1 with a blank
@@ -71,10 +71,10 @@ letter1 = refl
 
 -- ---- no such writer keeps the promise
 
-module _ (number : ℕ) (fine : blockFault paperA paperCells number 1024 ≡ fault 0 0) (w : Writing) (promised : Wrote paperA paperCells w)
+module _ (number : ℕ) (fine : blockObjection paperA paperCells number 1024 ≡ objection 0 0) (w : Writing) (promised : Wrote paperA paperCells w)
     (asked : w .number ≡ number) (long : length (w .lent) ≡ 1024) where
-  nothing-wrong : blockFault paperA paperCells (w .number) (length (w .lent)) ≡ fault 0 0
-  nothing-wrong = ap₂ (blockFault paperA paperCells) asked long ∙ fine
+  nothing-wrong : blockObjection paperA paperCells (w .number) (length (w .lent)) ≡ objection 0 0
+  nothing-wrong = ap₂ (blockObjection paperA paperCells) asked long ∙ fine
 
   paper-written : w .returned ≡ Written
   paper-written = promised .answers ∙ ap sentBy nothing-wrong

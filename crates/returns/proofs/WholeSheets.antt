@@ -12,7 +12,7 @@ use Rattle.heading.specs.Heading.{headerOf}
 use Rattle.sheet.proofs.SheetObeys.{sheet-obeys}
 use Rattle.written.specs.Cells.{blockCount}
 use Rattle.written.specs.Blocks.{blockSent}
-use Rattle.written.specs.Sending.{fault, sentBy, first, sheetFault, blockFault, blockAfter, countOf, sheetSentFault}
+use Rattle.written.specs.Sending.{objection, sentBy, first, sheetObjection, blockObjection, blockAfter, countOf, sheetSentObjection}
 use Rattle.written.proofs.BlocksSent.{block-long}
 use Rattle.written.proofs.SheetPasses.{none-of}
 use Rattle.returns.specs.Writers.{Writing, Wrote, CanBeSent}
@@ -32,25 +32,25 @@ module _ (template : List ℕ) (grid : List ℤ) where
       (template-length template h (can .sheet))
 
   pub sent-sheet-fine : (bytes : ℕ) → CanBeSent template grid → bytes ≡ 1024 * blockCount (headerOf template) grid
-      → sheetSentFault template grid bytes .kind ≡ 0
-  unfolding sheetSentFault
+      → sheetSentObjection template grid bytes .kind ≡ 0
+  unfolding sheetSentObjection
   sent-sheet-fine bytes can e =
       let k : eqb bytes (1024 * countOf template grid) ≡ true
       = eq-eqb bytes (1024 * countOf template grid) (e ∙ ap (λ (n : ℕ). 1024 * n) (sym (count-sent can))) in
-      λ i. first (sent-fine template grid can i) (cond (k i) (fault 0 0) (fault 1 0)) .kind
+      λ i. first (sent-fine template grid can i) (cond (k i) (objection 0 0) (objection 1 0)) .kind
 
-  pub sheet-fine-sent : (bytes : ℕ) → sheetSentFault template grid bytes .kind ≡ 0
+  pub sheet-fine-sent : (bytes : ℕ) → sheetSentObjection template grid bytes .kind ≡ 0
       → CanBeSent template grid × (bytes ≡ 1024 * blockCount (headerOf template) grid)
-  unfolding sheetSentFault
+  unfolding sheetSentObjection
   sheet-fine-sent bytes z =
-      by-test (eqb (sheetFault template grid .kind) 0)
+      by-test (eqb (sheetObjection template grid .kind) 0)
       (λ s.
-      let can = fine-sent template grid (eqb-true (sheetFault template grid .kind) 0 s) in
-      let room : cond (eqb bytes (1024 * countOf template grid)) (fault 0 0) (fault 1 0) .kind ≡ 0 = rw s at z in
+      let can = fine-sent template grid (eqb-true (sheetObjection template grid .kind) 0 s) in
+      let room : cond (eqb bytes (1024 * countOf template grid)) (objection 0 0) (objection 1 0) .kind ≡ 0 = rw s at z in
       by-test (eqb bytes (1024 * countOf template grid))
       (λ k. (can, eqb-true bytes (1024 * countOf template grid) k ∙ ap (λ (n : ℕ). 1024 * n) (count-sent can)))
       (λ k. let q : _≡_ {A = ℕ} 1 0 = rw k at room in none-of 0 q))
-      (λ s. let q : sheetFault template grid .kind ≡ 0 = rw s at z in absurd (eqb-false (sheetFault template grid .kind) 0 s q))
+      (λ s. let q : sheetObjection template grid .kind ≡ 0 = rw s at z in absurd (eqb-false (sheetObjection template grid .kind) 0 s q))
 
   -- a call of `write_block` by its definition
   abbrev pub call : ℕ → Writing
@@ -59,7 +59,7 @@ module _ (template : List ℕ) (grid : List ℤ) where
       record {
         number = number;
         lent = block;
-        returned = sentBy (blockFault template grid number (length block));
+        returned = sentBy (blockObjection template grid number (length block));
         left = blockAfter template grid number block;
       }
 

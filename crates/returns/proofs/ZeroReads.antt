@@ -34,7 +34,7 @@ use Rattle.ground.specs.Extremes.{leastStated, greatestStated}
 use Rattle.spell.specs.Spell.{realFits}
 use Rattle.spell.proofs.ReadBack.{integer-back, real-back, spacing-back}
 use Rattle.written.specs.Blocks.{Piece, pieceText, sheetCells, piecesBy, piecesA, blockZero}
-use Rattle.written.specs.Blocks.Piece.{keeps, whole, real as real·sent, spacing}
+use Rattle.written.specs.Blocks.Piece.{keeps, wholeSent, realSent, spacing}
 use Rattle.written.proofs.PiecesSent.{nothing, pieceFits, pieceWidth, bytesBefore, fit-at, piece-length, all-fit, zero-length}
 use Rattle.returns.specs.Header.{headerSent}
 
@@ -67,14 +67,14 @@ module _ (template : List ℕ) (long : length template ≡ 1024) where
 module _ (template : List ℕ) where
   abbrev ReadsBack : Piece → List ℕ → Type 0
   ReadsBack (keeps first width) text = text ≡ stretch first width template
-  ReadsBack (whole n) text = integer text ≡ read (pos n)
-  ReadsBack (real·sent z) text = real text ≡ read z
+  ReadsBack (wholeSent n) text = integer text ≡ read (pos n)
+  ReadsBack (realSent z) text = real text ≡ read z
   ReadsBack (spacing v) text = real text ≡ read (pos v)
 
   reads-back : (p : Piece) → pieceFits p ≡ true → (text : List ℕ) → text ≡ pieceText template p → ReadsBack p text
   reads-back (keeps first width) f text e = e
-  reads-back (whole n) f text e = ap integer e ∙ integer-back 6 (pos n) (omega arith) (omega arith) f
-  reads-back (real·sent z) f text e = ap real e ∙ real-back 24 z (omega arith) f
+  reads-back (wholeSent n) f text e = ap integer e ∙ integer-back 6 (pos n) (omega arith) (omega arith) f
+  reads-back (realSent z) f text e = ap real e ∙ real-back 24 z (omega arith) f
   reads-back (spacing v) f text e = ap real e ∙ spacing-back 12 (pos v) (omega arith) f
 
 -- a part of a stretch that two blocks share is shared

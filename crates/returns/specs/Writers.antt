@@ -13,7 +13,7 @@ use Rattle.sheet.specs.declared.Checked.the-variants.{Sheet, Refused as NoSheet
 use Rattle.ground.specs.Posts.{void}
 use Rattle.written.specs.declared.Sent.{Sent}
 use Rattle.written.specs.declared.Sent.the-variants.{Written, Refused}
-use Rattle.written.specs.Sending.{sentBy, blockFault, blockAfter, sheetSentFault, sheetAfter}
+use Rattle.written.specs.Sending.{sentBy, blockObjection, blockAfter, sheetSentObjection, sheetAfter}
 use Rattle.written.specs.Cells.{canSend, blockCount}
 
 -- ---- calls, with what they promise word for word (paper, proof Contracts, reads it off the contracts)
@@ -26,7 +26,7 @@ pub record Writing : Type 0 where
   pub left : List ℕ
 
 pub record Wrote (template : List ℕ) (grid : List ℤ) (w : Writing) : Type 0 where
-  pub answers : w .returned ≡ sentBy (blockFault template grid (w .number) (length (w .lent)))
+  pub answers : w .returned ≡ sentBy (blockObjection template grid (w .number) (length (w .lent)))
   pub writes : w .left ≡ blockAfter template grid (w .number) (w .lent)
 
 -- one call of `write_sheet`: the buffer lent, what it returned, and the buffer as it left it
@@ -36,7 +36,7 @@ pub record SheetWriting : Type 0 where
   pub left : List ℕ
 
 pub record WroteSheet (template : List ℕ) (grid : List ℤ) (w : SheetWriting) : Type 0 where
-  pub answers : w .returned ≡ sentBy (sheetSentFault template grid (length (w .lent)))
+  pub answers : w .returned ≡ sentBy (sheetSentObjection template grid (length (w .lent)))
   pub writes : w .left ≡ sheetAfter template grid (w .lent)
 
 -- ---- what can be sent

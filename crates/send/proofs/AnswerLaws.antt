@@ -13,7 +13,7 @@ use Rattle.frame.specs.declared.Header.{Header}
 use Rattle.frame.specs.Frame.{columnsOf, rowsOf}
 use Rattle.heading.specs.Heading.{headerOf}
 use Rattle.sheet.proofs.SheetObeys.{sheet-obeys}
-use Rattle.written.specs.Sending.{sheetFault, Fault, fault, blockFault, blockAfter, countOf, sentBy}
+use Rattle.written.specs.Sending.{sheetObjection, Objection, objection, blockObjection, blockAfter, countOf, sentBy}
 use Rattle.written.specs.Cells.{blockCount, columnWith}
 use Rattle.written.specs.Blocks.{profileBlock, blockZero, blockSent}
 use Rattle.written.proofs.SheetPasses.{fine-passes}
@@ -28,11 +28,11 @@ use Rattle.send.specs.WholeSteps.{FitAsked}
 use Rattle.written.specs.declared.Sent.{Sent}
 use Rattle.written.specs.declared.Sent.the-variants.{Refused, Written}
 use Rattle.send.specs.SendSteps.{SendableSheet, ZeroAsked, ProfileAsked}
-use Rattle.send.specs.AnswerSteps.{countFault, numbered, LaterAsked, laterBlock}
+use Rattle.send.specs.AnswerSteps.{countObjection, numbered, LaterAsked, laterBlock}
 
 -- ---- a sheet that nothing stands against can be sent
 
-pub fine-fits : (template : List ℕ) (grid : List ℤ) → sheetFault template grid .kind ≡ 0 → FitAsked template (headerOf template) grid
+pub fine-fits : (template : List ℕ) (grid : List ℤ) → sheetObjection template grid .kind ≡ 0 → FitAsked template (headerOf template) grid
 fine-fits template grid z =
     let p = fine-passes template grid z in
     record {
@@ -53,11 +53,11 @@ goodHeader : Header → Judged → Header
 goodHeader k (Good h) = h
 goodHeader k (Bad kind number) = k
 
-badFault : Judged → Fault
-badFault (Good h) = fault 0 0
-badFault (Bad kind number) = fault kind number
+badObjection : Judged → Objection
+badObjection (Good h) = objection 0 0
+badObjection (Bad kind number) = objection kind number
 
-module _ (k : Header) (f : Fault) where
+module _ (k : Header) (f : Objection) where
   judged-good : (h : Header) → Good h ≡ judgedBy k f → (f .kind ≡ 0) × (h ≡ k)
   unfolding isBad goodHeader
   judged-good h e =
@@ -69,8 +69,8 @@ module _ (k : Header) (f : Fault) where
       let q : Good h ≡ Bad (f .kind) (f .number) = rw t at e in
       let n : _≡_ {A = ℕ} 0 1 = ap isBad q in absurd (omega (arith, n)))
 
-  pub judged-bad : (kind number : ℕ) → Bad kind number ≡ judgedBy k f → (eqb (f .kind) 0 ≡ false) × (fault kind number ≡ f)
-  unfolding isBad badFault
+  pub judged-bad : (kind number : ℕ) → Bad kind number ≡ judgedBy k f → (eqb (f .kind) 0 ≡ false) × (objection kind number ≡ f)
+  unfolding isBad badObjection
   judged-bad kind number e =
       by-test (eqb (f .kind) 0)
       (λ t.
@@ -78,18 +78,18 @@ module _ (k : Header) (f : Fault) where
       let n : _≡_ {A = ℕ} 1 0 = ap isBad q in absurd (omega (arith, n)))
       (λ t.
       let q : Bad kind number ≡ Bad (f .kind) (f .number) = rw t at e in
-      (t, ap badFault q))
+      (t, ap badObjection q))
 
 module _ (template : List ℕ) (grid : List ℤ) where
-  module _ (h : Header) (e : Good h ≡ judgedBy (headerOf template) (sheetFault template grid)) where
-    good-none : sheetFault template grid .kind ≡ 0
-    good-none = judged-good (headerOf template) (sheetFault template grid) h e .0
+  module _ (h : Header) (e : Good h ≡ judgedBy (headerOf template) (sheetObjection template grid)) where
+    good-none : sheetObjection template grid .kind ≡ 0
+    good-none = judged-good (headerOf template) (sheetObjection template grid) h e .0
 
     pub good-header : h ≡ headerOf template
-    good-header = judged-good (headerOf template) (sheetFault template grid) h e .1
+    good-header = judged-good (headerOf template) (sheetObjection template grid) h e .1
 
-    pub good-fine : eqb (sheetFault template grid .kind) 0 ≡ true
-    good-fine = eq-eqb (sheetFault template grid .kind) 0 good-none
+    pub good-fine : eqb (sheetObjection template grid .kind) 0 ≡ true
+    good-fine = eq-eqb (sheetObjection template grid .kind) 0 good-none
 
     pub good-fits : FitAsked template h grid
     good-fits = subst (λ (k : Header). FitAsked template k grid) (sym good-header) (fine-fits template grid good-none)
@@ -103,43 +103,43 @@ module _ (template : List ℕ) (grid : List ℤ) where
 
     -- the number decides
     pub good-answer : (number : ℕ) (block after : List ℕ) (r : Sent) → length block ≡ 1024
-        → (r ≡ sentBy (countFault h grid number)) × (after ≡ numbered template h grid number block)
-        → (r ≡ sentBy (blockFault template grid number (length block))) × (after ≡ blockAfter template grid number block)
-    unfolding blockFault
+        → (r ≡ sentBy (countObjection h grid number)) × (after ≡ numbered template h grid number block)
+        → (r ≡ sentBy (blockObjection template grid number (length block))) × (after ≡ blockAfter template grid number block)
+    unfolding blockObjection
     good-answer number block after r l a =
         let k = headerOf template in
         let long = eq-eqb (length block) 1024 l in
-        let s : blockFault template grid number (length block) ≡ countFault k grid number = rw (long, good-fine) in
-        let p : countFault h grid number ≡ blockFault template grid number (length block)
-        = ap (λ (x : Header). countFault x grid number) good-header ∙ sym s in
+        let s : blockObjection template grid number (length block) ≡ countObjection k grid number = rw (long, good-fine) in
+        let p : countObjection h grid number ≡ blockObjection template grid number (length block)
+        = ap (λ (x : Header). countObjection x grid number) good-header ∙ sym s in
         let q : numbered template k grid number block ≡ blockAfter template grid number block
         = by-test (leb (blockCount k grid) number) (λ t. rw (s, t)) (λ t. rw (s, t)) in (
           a .0 ∙ ap sentBy p,
           a .1 ∙ ap (λ (x : Header). numbered template x grid number block) good-header ∙ q,
         )
 
-  module _ (kind n : ℕ) (e : Bad kind n ≡ judgedBy (headerOf template) (sheetFault template grid)) where
+  module _ (kind n : ℕ) (e : Bad kind n ≡ judgedBy (headerOf template) (sheetObjection template grid)) where
     pub bad-count : 0 ≡ countOf template grid
     unfolding countOf
-    bad-count = rw (judged-bad (headerOf template) (sheetFault template grid) kind n e .0)
+    bad-count = rw (judged-bad (headerOf template) (sheetObjection template grid) kind n e .0)
 
     -- a refused sheet leaves the block
     pub bad-answer : (number : ℕ) (block : List ℕ) → length block ≡ 1024
-        → (Refused kind n ≡ sentBy (blockFault template grid number (length block)))
+        → (Refused kind n ≡ sentBy (blockObjection template grid number (length block)))
         × (block ≡ blockAfter template grid number block)
-    unfolding blockFault
+    unfolding blockObjection
     bad-answer number block l =
-        let j = judged-bad (headerOf template) (sheetFault template grid) kind n e in
-        let s : blockFault template grid number (length block) ≡ sheetFault template grid
+        let j = judged-bad (headerOf template) (sheetObjection template grid) kind n e in
+        let s : blockObjection template grid number (length block) ≡ sheetObjection template grid
         = rw (eq-eqb (length block) 1024 l, j .0) in
-        let p : Refused (sheetFault template grid .kind) (sheetFault template grid .number) ≡ sentBy (sheetFault template grid) = rw (j .0) in
-        (ap (λ (x : Fault). Refused (x .kind) (x .number)) (j .1) ∙ p ∙ ap sentBy (sym s), rw (s, j .0))
+        let p : Refused (sheetObjection template grid .kind) (sheetObjection template grid .number) ≡ sentBy (sheetObjection template grid) = rw (j .0) in
+        (ap (λ (x : Objection). Refused (x .kind) (x .number)) (j .1) ∙ p ∙ ap sentBy (sym s), rw (s, j .0))
 
   -- "1 lent block length (number 0)" comes first
   pub length-answer : (number : ℕ) (block : List ℕ) → (length block ≡ 1024 → ⊥)
-      → (Refused 1 0 ≡ sentBy (blockFault template grid number (length block)))
+      → (Refused 1 0 ≡ sentBy (blockObjection template grid number (length block)))
       × (block ≡ blockAfter template grid number block)
-  unfolding blockFault
+  unfolding blockObjection
   length-answer number block n =
       let t = ne-eqb (length block) 1024 n in
       (rw t, rw t)
@@ -178,13 +178,13 @@ module _ {h : Header} {grid : List ℤ} {number : ℕ} {block : List ℕ} (a : L
 
 module _ (template : List ℕ) (h : Header) (grid : List ℤ) (number : ℕ) (block : List ℕ) where
   pub past-end : (count : ℕ) → count ≡ blockCount h grid → count ≤ number
-      → (Refused 14 count ≡ sentBy (countFault h grid number)) × (block ≡ numbered template h grid number block)
+      → (Refused 14 count ≡ sentBy (countObjection h grid number)) × (block ≡ numbered template h grid number block)
   past-end count e p =
       let t : leb (blockCount h grid) number ≡ true = le-leb (blockCount h grid) number (omega (arith, e, p)) in
       (rw (t, e), rw t)
 
   pub written-zero : (after : List ℕ) → number < blockCount h grid → number ≡ 0 → after ≡ blockZero template h grid
-      → (Written ≡ sentBy (countFault h grid number)) × (after ≡ numbered template h grid number block)
+      → (Written ≡ sentBy (countObjection h grid number)) × (after ≡ numbered template h grid number block)
   unfolding blockSent
   written-zero after p z a =
       let t : leb (blockCount h grid) number ≡ false = lt-leb (blockCount h grid) number p in
@@ -192,7 +192,7 @@ module _ (template : List ℕ) (h : Header) (grid : List ℤ) (number : ℕ) (bl
       (rw t, rw (t, y) a)
 
   pub written-later : (after : List ℕ) → number < blockCount h grid → (number ≡ 0 → ⊥) → after ≡ laterBlock h grid number
-      → (Written ≡ sentBy (countFault h grid number)) × (after ≡ numbered template h grid number block)
+      → (Written ≡ sentBy (countObjection h grid number)) × (after ≡ numbered template h grid number block)
   unfolding blockSent
   written-later after p z a =
       let t : leb (blockCount h grid) number ≡ false = lt-leb (blockCount h grid) number p in

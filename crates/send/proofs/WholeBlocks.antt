@@ -14,7 +14,7 @@ use Rattle.heading.specs.Heading.{headerOf}
 use Rattle.ground.proofs.BlocksJoined.{text-length, block-at}
 use Rattle.written.specs.Cells.{blockCount}
 use Rattle.written.specs.Blocks.{blockSent}
-use Rattle.written.specs.Sending.{sheetFault, blockFault, blockAfter, countOf, sentText, sheetSentFault, sheetAfter}
+use Rattle.written.specs.Sending.{sheetObjection, blockObjection, blockAfter, countOf, sentText, sheetSentObjection, sheetAfter}
 use Rattle.written.proofs.BlocksSent.{block-long}
 use Rattle.send.specs.WholeSteps.{FitAsked}
 use Rattle.send.proofs.AnswerLaws.{fine-fits}
@@ -28,10 +28,10 @@ module _ (template : List ℕ) (h : Header) (grid : List ℤ) (fit : FitAsked te
 module _ (template : List ℕ) (grid : List ℤ) where
   -- where there is a block, nothing is refused
   counted : (b : ℕ) → b < countOf template grid
-      → (sheetFault template grid .kind ≡ 0) × (countOf template grid ≡ blockCount (headerOf template) grid)
+      → (sheetObjection template grid .kind ≡ 0) × (countOf template grid ≡ blockCount (headerOf template) grid)
   unfolding countOf
   counted b lt =
-      by-test (eqb (sheetFault template grid .kind) 0) (λ z. (eqb-true (sheetFault template grid .kind) 0 z, rw z))
+      by-test (eqb (sheetObjection template grid .kind) 0) (λ z. (eqb-true (sheetObjection template grid .kind) 0 z, rw z))
       (λ z. let none : b < 0 = rw z at lt in absurd (omega (arith, none)))
 
   -- each 1,024 bytes that write_sheet writes are what write_block writes for their number
@@ -57,11 +57,11 @@ module _ (template : List ℕ) (grid : List ℤ) where
   -- by what the two functions promise: b-th block of the buffer, and the block that is lent for b
   pub single-calls : (out block : List ℕ) (b : ℕ) → length out ≡ 1024 * countOf template grid → length block ≡ 1024 → b < countOf template grid
       → take 1024 (drop (1024 * b) (sheetAfter template grid out)) ≡ blockAfter template grid b block
-  unfolding sheetSentFault blockFault
+  unfolding sheetSentObjection blockObjection
   single-calls out block b l m lt =
       let f = counted b lt in
       let count = blockCount (headerOf template) grid in
-      let z : eqb (sheetFault template grid .kind) 0 ≡ true = eq-eqb (sheetFault template grid .kind) 0 (f .0) in
+      let z : eqb (sheetObjection template grid .kind) 0 ≡ true = eq-eqb (sheetObjection template grid .kind) 0 (f .0) in
       let room : eqb (length out) (1024 * countOf template grid) ≡ true = eq-eqb (length out) (1024 * countOf template grid) l in
       let long : eqb (length block) 1024 ≡ true = eq-eqb (length block) 1024 m in
       let below : leb count b ≡ false = lt-leb count b (omega (arith, lt, f .1)) in

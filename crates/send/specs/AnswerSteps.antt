@@ -10,7 +10,7 @@ use Rattle.frame.specs.declared.Header.{Header}
 use Rattle.frame.specs.Frame.{columnsOf}
 use Rattle.written.specs.Cells.{blockCount, startSent, columnWith}
 use Rattle.written.specs.Blocks.{profileBlock, blockSent}
-use Rattle.written.specs.Sending.{Fault, fault}
+use Rattle.written.specs.Sending.{Objection, objection}
 use Rattle.send.specs.SendSteps.{SendableSheet}
 
 -- a block of a sheet that is not block 0
@@ -27,8 +27,8 @@ laterBlock h grid number =
     profileBlock h grid c (number - startSent h grid c)
 
 -- "14 number not below the sheet's block count (that count)", by the header
-abbrev pub countFault : Header → List ℤ → ℕ → Fault
-countFault h grid number = cond (leb (blockCount h grid) number) (fault 14 (blockCount h grid)) (fault 0 0)
+abbrev pub countObjection : Header → List ℤ → ℕ → Objection
+countObjection h grid number = cond (leb (blockCount h grid) number) (objection 14 (blockCount h grid)) (objection 0 0)
 
 -- what the lent block holds afterwards
 abbrev pub numbered : List ℕ → Header → List ℤ → ℕ → List ℕ → List ℕ

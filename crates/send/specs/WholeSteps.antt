@@ -12,7 +12,7 @@ use Rattle.frame.specs.Frame.{columnsOf}
 use Rattle.ground.specs.Posts.{blocksFor}
 use Rattle.written.specs.Blocks.{profileBlock, blockZero}
 use Rattle.written.specs.Cells.{cellsSent, blockCount}
-use Rattle.written.specs.Sending.{Fault, fault}
+use Rattle.written.specs.Sending.{Objection, objection}
 use Rattle.send.specs.SendSteps.{SendableSheet}
 
 -- the first k blocks of a column's profile, and all of them
@@ -31,8 +31,8 @@ unfoldable pub wholeText : List ℕ → Header → List ℤ → List ℕ
 wholeText template h grid = blockZero template h grid ++ columnsText h grid (columnsOf h)
 
 -- a buffer that is not count × 1,024 bytes: 1, with number 0
-abbrev pub roomFault : Header → List ℤ → ℕ → Fault
-roomFault h grid bytes = cond (eqb bytes (1024 * blockCount h grid)) (fault 0 0) (fault 1 0)
+abbrev pub roomObjection : Header → List ℤ → ℕ → Objection
+roomObjection h grid bytes = cond (eqb bytes (1024 * blockCount h grid)) (objection 0 0) (objection 1 0)
 
 -- ---- what the functions ask
 

@@ -8,9 +8,9 @@ use frame::Header;
 use written::Sent;
 ghost use mathlib.Core.Path.{_≡_};
 ghost use lib.ListN.{length};
-ghost use Rattle.written.specs.Sending.{blockFault, blockAfter, countOf, sentBy, sheetSentFault, sheetAfter};
+ghost use Rattle.written.specs.Sending.{blockObjection, blockAfter, countOf, sentBy, sheetSentObjection, sheetAfter};
 ghost use Rattle.send.specs.SendSteps.{ZeroAsked};
-ghost use Rattle.send.specs.AnswerSteps.{LaterAsked, laterBlock, countFault, numbered};
+ghost use Rattle.send.specs.AnswerSteps.{LaterAsked, laterBlock, countObjection, numbered};
 
 // How many blocks a template and grid have; 0 where they are refused. So a caller can loop without provoking a refusal.
 pub fn block_count(template: &[u8], grid: &[i32]) -> u64
@@ -36,7 +36,7 @@ fn write_later(h: Header, grid: &[i32], number: u64, block: &mut [u8])
 // "14 number not below the sheet's block count (that count)", or the block.
 fn write_number(template: &[u8], h: Header, grid: &[i32], number: u64, block: &mut [u8]) -> Sent
     requires { ⌜ ZeroAsked (now template) h (now grid) (now block) ⌝ }
-    ensures { λ r. ⌜ (r ≡ sentBy (countFault h (now (grid .entry)) number)) × (now (block .exit) ≡ numbered (now (template .entry)) h (now (grid .entry)) number (now (block .entry))) ⌝ }
+    ensures { λ r. ⌜ (r ≡ sentBy (countObjection h (now (grid .entry)) number)) × (now (block .exit) ≡ numbered (now (template .entry)) h (now (grid .entry)) number (now (block .entry))) ⌝ }
 {
     let count = census::count_of(h, grid);
     if count <= number {
@@ -52,7 +52,7 @@ fn write_number(template: &[u8], h: Header, grid: &[i32], number: u64, block: &m
 
 // One block of the sheet into the lent block; a refusal leaves it as it was.
 pub fn write_block(template: &[u8], grid: &[i32], number: u64, block: &mut [u8]) -> Sent
-    ensures { λ r. ⌜ (r ≡ sentBy (blockFault (now (template .entry)) (now (grid .entry)) number (length (now (block .entry))))) × (now (block .exit) ≡ blockAfter (now (template .entry)) (now (grid .entry)) number (now (block .entry))) ⌝ }
+    ensures { λ r. ⌜ (r ≡ sentBy (blockObjection (now (template .entry)) (now (grid .entry)) number (length (now (block .entry))))) × (now (block .exit) ≡ blockAfter (now (template .entry)) (now (grid .entry)) number (now (block .entry))) ⌝ }
 {
     if block.len() != 1024 {
         return Sent::Refused(1, 0);
@@ -67,7 +67,7 @@ pub fn write_block(template: &[u8], grid: &[i32], number: u64, block: &mut [u8])
 // The whole sheet into one lent buffer of block_count × 1,024 bytes: write_block's blocks, one behind the other (proofs/WholeBlocks).
 // The sheet is judged and counted once. A refusal leaves the buffer as it was.
 pub fn write_sheet(template: &[u8], grid: &[i32], out: &mut [u8]) -> Sent
-    ensures { λ r. ⌜ (r ≡ sentBy (sheetSentFault (now (template .entry)) (now (grid .entry)) (length (now (out .entry))))) × (now (out .exit) ≡ sheetAfter (now (template .entry)) (now (grid .entry)) (now (out .entry))) ⌝ }
+    ensures { λ r. ⌜ (r ≡ sentBy (sheetSentObjection (now (template .entry)) (now (grid .entry)) (length (now (out .entry))))) × (now (out .exit) ≡ sheetAfter (now (template .entry)) (now (grid .entry)) (now (out .entry))) ⌝ }
 {
     let judged = judging::judge_sheet(template, grid);
     match judged {

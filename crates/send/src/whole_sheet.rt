@@ -9,7 +9,7 @@ ghost use lib.Dec.{eqb};
 ghost use lib.ListN.{length};
 ghost use Rattle.numerals.specs.Pieces.{Puts};
 ghost use Rattle.written.specs.Sending.{sentBy};
-ghost use Rattle.send.specs.WholeSteps.{ColumnAsked, ColumnsAsked, BlocksAsked, FitAsked, columnText, columnsText, wholeText, roomFault};
+ghost use Rattle.send.specs.WholeSteps.{ColumnAsked, ColumnsAsked, BlocksAsked, FitAsked, columnText, columnsText, wholeText, roomObjection};
 ghost use Rattle.frame.specs.Frame.{columnsOf};
 ghost use Rattle.written.specs.Cells.{blockCount, cellsSent};
 ghost use Rattle.ground.specs.Posts.{blocksFor};
@@ -67,7 +67,7 @@ fn write_blocks(template: &[u8], h: Header, grid: &[i32], out: &mut [u8])
 // The sheet has been judged; a buffer that is not count × 1,024 bytes is refused before a byte is written.
 pub(crate) fn write_fitting(template: &[u8], h: Header, grid: &[i32], out: &mut [u8]) -> Sent
     requires { ⌜ FitAsked (now template) h (now grid) ⌝ }
-    ensures { λ r. ⌜ (r ≡ sentBy (roomFault h (now (grid .entry)) (length (now (out .entry))))) × (now (out .exit) ≡ cond (eqb (length (now (out .entry))) (1024 * blockCount h (now (grid .entry)))) (wholeText (now (template .entry)) h (now (grid .entry))) (now (out .entry))) ⌝ }
+    ensures { λ r. ⌜ (r ≡ sentBy (roomObjection h (now (grid .entry)) (length (now (out .entry))))) × (now (out .exit) ≡ cond (eqb (length (now (out .entry))) (1024 * blockCount h (now (grid .entry)))) (wholeText (now (template .entry)) h (now (grid .entry))) (now (out .entry))) ⌝ }
 {
     let count = census::count_of(h, grid);
     if out.len() as u64 != 1024 * count {

@@ -11,6 +11,7 @@ use Rattle.number.specs.Real.{real}
 use Rattle.number.specs.declared.Reading.{Reading}
 use Rattle.field.specs.Field.{isWord, stretch, wholeAt, ranged, fault, faultOr}
 use Rattle.field.specs.declared.Fault.{Fault}
+use Rattle.frame.specs.declared.Header.{Header}
 use Rattle.frame.specs.Frame.{wholeFault}
 use Rattle.heading.specs.Heading.{Name, limitsOf, headerOf}
 use Rattle.heading.specs.Heading.Name.{level, pattern, system, zone, ground, vertical, sides, angle, accuracy, spacing, height, rank, profiles}
@@ -107,9 +108,12 @@ faultOf block =
     (cond (eqb (firstFault block fields .kind) 0) (wholeFault (headerOf block)) (firstFault block fields))
     (fault 1 0)
 
+-- the cases of the answer, with document 01's kind and byte
+abbrev pub checkedBy : Fault → Header → Checked
+checkedBy f h = cond (eqb (f .kind) 0) (Sheet h) (Refused (f .kind) (f .byte))
+
 unfoldable pub recordA : List ℕ → Checked
-recordA block =
-    cond (eqb (faultOf block .kind) 0) (Sheet (headerOf block)) (Refused (faultOf block .kind) (faultOf block .byte))
+recordA block = checkedBy (faultOf block) (headerOf block)
 
 -- the numbers of each case: kind 0 and byte 0 for a good record
 abbrev pub checkedKind : Checked → ℕ

@@ -14,7 +14,7 @@ use Rattle.frame.specs.declared.Header.{Header}
 use Rattle.heading.specs.Heading.{headerObeys}
 use Rattle.spell.specs.Spell.{realFits}
 use Rattle.written.specs.Blocks.{pieceText, piecesBy, Piece}
-use Rattle.written.specs.Blocks.Piece.{keeps, whole, real, spacing}
+use Rattle.written.specs.Blocks.Piece.{keeps, wholeSent, realSent, spacing}
 use Rattle.written.specs.Painted.{widths}
 use Rattle.written.proofs.PiecesSent.{pieceFits, all-fit}
 use Rattle.written.proofs.PaintedFits.{fieldFits, fieldText, textOf, painted-fits}
@@ -28,14 +28,14 @@ zeroBy template h least greatest columns = joined (map (pieceText template) (pie
 module _ (template : List ℕ) where
   piece-text : (p : Piece) → fieldText (fieldOf template p) ≡ pieceText template p
   piece-text (keeps first width) = refl
-  piece-text (whole n) = refl
-  piece-text (real z) = refl
+  piece-text (wholeSent n) = refl
+  piece-text (realSent z) = refl
   piece-text (spacing v) = refl
 
   piece-fits : (p : Piece) → pieceFits p ≡ true → fieldFits (fieldOf template p) ≡ true
   piece-fits (keeps first width) t = refl
-  piece-fits (whole n) t = t
-  piece-fits (real z) t = t
+  piece-fits (wholeSent n) t = t
+  piece-fits (realSent z) t = t
   piece-fits (spacing v) t = t
 
   pieces-text : (ps : List Piece) → textOf (map (fieldOf template) ps) ≡ joined (map (pieceText template) ps)

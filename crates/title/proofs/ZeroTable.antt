@@ -23,7 +23,7 @@ use Rattle.frame.specs.declared.Header.{Header}
 use Rattle.spell.specs.Spell.{wholeDigits, wholeText as written, integerFits, realFits, integerText, realText}
 use Rattle.spell.proofs.Texts.{whole-length}
 use Rattle.written.specs.Blocks.{Piece, piecesBy}
-use Rattle.written.specs.Blocks.Piece.{keeps, whole, real, spacing}
+use Rattle.written.specs.Blocks.Piece.{keeps, wholeSent, realSent, spacing}
 use Rattle.written.specs.Painted.{wide, over}
 use Rattle.written.proofs.PiecesSent.{nothing}
 use Rattle.title.specs.ZeroSteps.{Stretch, blockEnd, stretches, stretchAt, capped, numberIn, textBy, within, pieceBy}
@@ -110,8 +110,8 @@ capped-same fits text long n old =
 
 abbrev pub suits : Piece → Stretch → Bool
 suits (keeps first width) s = eqb (s .how) 0 and eqb (s .start) (first - 1) and eqb (s .width) width
-suits (whole n) s = eqb (s .how) 1 and eqb (s .width) 6
-suits (real z) s = eqb (s .how) 2 and eqb (s .width) 24
+suits (wholeSent n) s = eqb (s .how) 1 and eqb (s .width) 6
+suits (realSent z) s = eqb (s .how) 2 and eqb (s .width) 24
 suits (spacing v) s = eqb (s .how) 3 and eqb (s .width) 12
 
 abbrev suit : List Piece → List Stretch → Bool
@@ -142,8 +142,8 @@ module _ (template : List ℕ) where
       let from = eqb→eq (s .start) (first - 1) (and-left (eqb (s .start) (first - 1)) _ (and-right (eqb (s .how) 0) _ t)) in
       let many = eqb→eq (s .width) width (and-right (eqb (s .start) (first - 1)) _ (and-right (eqb (s .how) 0) _ t)) in
       length-take-le width (drop (first - 1) template) (omega (arith, length-drop (first - 1) template, from, many, h)) ∙ sym many
-  wide-is (whole n) s t h = sym (eqb→eq (s .width) 6 (and-right (eqb (s .how) 1) _ t))
-  wide-is (real z) s t h = sym (eqb→eq (s .width) 24 (and-right (eqb (s .how) 2) _ t))
+  wide-is (wholeSent n) s t h = sym (eqb→eq (s .width) 6 (and-right (eqb (s .how) 1) _ t))
+  wide-is (realSent z) s t h = sym (eqb→eq (s .width) 24 (and-right (eqb (s .how) 2) _ t))
   wide-is (spacing v) s t h = sym (eqb→eq (s .width) 12 (and-right (eqb (s .how) 3) _ t))
 
   pub text-is : (field : List ℕ) (p : Piece) (s : Stretch) → T (suits p s) → length field ≡ s .width
@@ -156,11 +156,11 @@ module _ (template : List ℕ) where
         eqb→eq (s .start) (first - 1) (and-left (eqb (s .start) (first - 1)) _ rest),
         eqb→eq (s .width) width (and-right (eqb (s .start) (first - 1)) _ rest),
       )
-  text-is field (whole n) s t l =
+  text-is field (wholeSent n) s t l =
       let e : length field ≡ 6 = l ∙ eqb→eq (s .width) 6 (and-right (eqb (s .how) 1) _ t) in
       rw (eqb→eq (s .how) 1 (and-left (eqb (s .how) 1) _ t), e)
       (capped-same (integerFits 6) (integerText 6) long-whole n field)
-  text-is field (real z) s t l =
+  text-is field (realSent z) s t l =
       let e : length field ≡ 24 = l ∙ eqb→eq (s .width) 24 (and-right (eqb (s .how) 2) _ t) in
       rw (eqb→eq (s .how) 2 (and-left (eqb (s .how) 2) _ t), e)
   text-is field (spacing v) s t l =

@@ -11,14 +11,14 @@ use Rattle.frame.specs.declared.Header.{Header}
 use Rattle.frame.specs.Frame.{cellsOf, columnsOf}
 use Rattle.ground.specs.Extremes.{leastStated, greatestStated}
 use Rattle.written.specs.Blocks.{Piece, piecesBy, sheetCells}
-use Rattle.written.specs.Blocks.Piece.{keeps, whole, real, spacing}
+use Rattle.written.specs.Blocks.Piece.{keeps, wholeSent, realSent, spacing}
 use Rattle.written.specs.Painted.{Field, painted}
 use Rattle.written.specs.Painted.Field.{text, integer, decimal, step}
 
 abbrev pub fieldOf : List ℕ → Piece → Field
 fieldOf template (keeps first width) = text (stretch first width template)
-fieldOf template (whole n) = integer (pos n)
-fieldOf template (real z) = decimal z
+fieldOf template (wholeSent n) = integer (pos n)
+fieldOf template (realSent z) = decimal z
 fieldOf template (spacing v) = step (pos v)
 
 abbrev pub zeroFields : List ℕ → Header → ℤ → ℤ → ℕ → List Field

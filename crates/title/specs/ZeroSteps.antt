@@ -9,7 +9,7 @@ use borrow.Rule.Slice.PartMut.{putMid}
 use Rattle.frame.specs.declared.Header.{Header}
 use Rattle.spell.specs.Spell.{integerText, integerFits, realText, realFits}
 use Rattle.written.specs.Blocks.{Piece, piecesBy}
-use Rattle.written.specs.Blocks.Piece.{keeps, whole, real, spacing}
+use Rattle.written.specs.Blocks.Piece.{keeps, wholeSent, realSent, spacing}
 
 -- ---- the table
 
@@ -69,8 +69,8 @@ capped n = pos (min n 9223372036854775807)
 -- what is written in a piece; 0 where the template is kept
 abbrev pub numberIn : Piece → ℤ
 numberIn (keeps first width) = pos 0
-numberIn (whole n) = capped n
-numberIn (real z) = z
+numberIn (wholeSent n) = capped n
+numberIn (realSent z) = z
 numberIn (spacing v) = capped v
 
 unfoldable pub numbersBy : Header → ℤ → ℤ → ℕ → List ℤ

@@ -24,20 +24,20 @@ use Rattle.ground.specs.Extremes.{leastStated, greatestStated}
 use Rattle.spell.specs.Spell.{integerFits, realFits}
 use Rattle.spell.proofs.Fits.{integer-length, real-length, integer-fits, thousands-fit, fits-real, whole-spacing-fits, fine-spacing-fits}
 use Rattle.written.specs.Blocks.{Piece, pieceText, piecesBy, sheetCells, blockZero}
-use Rattle.written.specs.Blocks.Piece.{keeps, whole, real, spacing}
+use Rattle.written.specs.Blocks.Piece.{keeps, wholeSent, realSent, spacing}
 
 -- ---- a piece that fits fills its place
 
 abbrev pub pieceFits : Piece → Bool
 pieceFits (keeps first width) = leb (first - 1 + width) 1024
-pieceFits (whole n) = integerFits 6 (pos n)
-pieceFits (real z) = realFits 15 24 z
+pieceFits (wholeSent n) = integerFits 6 (pos n)
+pieceFits (realSent z) = realFits 15 24 z
 pieceFits (spacing v) = realFits 6 12 (pos v)
 
 abbrev pub pieceWidth : Piece → ℕ
 pieceWidth (keeps first width) = width
-pieceWidth (whole n) = 6
-pieceWidth (real z) = 24
+pieceWidth (wholeSent n) = 6
+pieceWidth (realSent z) = 24
 pieceWidth (spacing v) = 12
 
 -- how many bytes stand before piece i
@@ -59,8 +59,8 @@ module _ (template : List ℕ) (long : length template ≡ 1024) where
   piece-length (keeps first width) f =
       length-take-le width (drop (first - 1) template)
       (omega (arith, length-drop (first - 1) template, long, leb-true (first - 1 + width) 1024 f))
-  piece-length (whole n) f = integer-length 6 (pos n) f
-  piece-length (real z) f = real-length 15 24 z 68 f
+  piece-length (wholeSent n) f = integer-length 6 (pos n) f
+  piece-length (realSent z) f = real-length 15 24 z 68 f
   piece-length (spacing v) f = real-length 6 12 (pos v) 69 f
 
   pieces-length : (ps : List Piece) → all pieceFits ps ≡ true

@@ -17,7 +17,7 @@ use Rattle.sheet.specs.declared.Checked.{Checked}
 use Rattle.sheet.proofs.RulesA.{sheet-header}
 use Rattle.written.specs.Cells.{canSend, sendable}
 use Rattle.written.specs.Blocks.{sheetCells}
-use Rattle.written.specs.Sending.{gridFault, checkedFault, sheetFault}
+use Rattle.written.specs.Sending.{gridObjection, checkedObjection, sheetObjection}
 use Rattle.written.proofs.SheetSent.{sheet-length}
 
 -- no list has more cells that can be sent than it has cells
@@ -44,7 +44,7 @@ refused-kind template kind byte e z =
     eqb-false (faultOf template .kind) 0 f (ap checkedKind q ∙ z))
 
 -- "12 (0), 13 first cell ..": neither is so
-pub grid-passes : (h : Header) (grid : List ℤ) → gridFault h grid .kind ≡ 0
+pub grid-passes : (h : Header) (grid : List ℤ) → gridObjection h grid .kind ≡ 0
     → (cellsOf h ≤ length grid) × (sendable (zOf h) (sheetCells h grid) ≡ cellsOf h)
 grid-passes h grid f =
     by-test (ltb (length grid) (cellsOf h))
@@ -62,16 +62,16 @@ pub record Passes (template : List ℕ) (grid : List ℤ) : Type 0 where
   pub room : cellsOf (headerOf template) ≤ length grid
   pub all : sendable (zOf (headerOf template)) (sheetCells (headerOf template) grid) ≡ cellsOf (headerOf template)
 
-pub fine-passes : (template : List ℕ) (grid : List ℤ) → sheetFault template grid .kind ≡ 0 → Passes template grid
-unfolding sheetFault
+pub fine-passes : (template : List ℕ) (grid : List ℤ) → sheetObjection template grid .kind ≡ 0 → Passes template grid
+unfolding sheetObjection
 fine-passes template grid z =
     by-test (eqb (length template) 1024)
     (λ l. go (eqb-true (length template) 1024 l) (recordA template) refl (rw l at z))
     (λ l. let q : _≡_ {A = ℕ} 1 0 = rw l at z in none-of 0 q)
   where
-    go : length template ≡ 1024 → (c : Checked) → recordA template ≡ c → checkedFault c grid .kind ≡ 0 → Passes template grid
+    go : length template ≡ 1024 → (c : Checked) → recordA template ≡ c → checkedObjection c grid .kind ≡ 0 → Passes template grid
     go l (NoSheet kind byte) e g = absurd (refused-kind template kind byte e g)
     go l (Sheet k) e g =
         let same : k ≡ headerOf template = sheet-header template e in
-        let f = grid-passes (headerOf template) grid (ap (λ (x : Header). gridFault x grid .kind) (sym same) ∙ g) in
+        let f = grid-passes (headerOf template) grid (ap (λ (x : Header). gridObjection x grid .kind) (sym same) ∙ g) in
         record { long = l; sheet = e ∙ ap Sheet same; room = f .0; all = f .1 }

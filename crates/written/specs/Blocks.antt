@@ -20,19 +20,19 @@ use Rattle.written.specs.Cells.{columnCells, firstRow, cellsSent, postOf
 -- a stretch of block 0: kept from the template, from its first byte, or a number written anew
 pub data Piece : Type 0 where
   keeps : ℕ → ℕ → Piece
-  whole : ℕ → Piece
-  real : ℤ → Piece
+  wholeSent : ℕ → Piece
+  realSent : ℤ → Piece
   spacing : ℕ → Piece
 
 -- "Integers: ..", "Reals: .. 15 digits (6 in the spacings) .. D (E in the spacings)"
 abbrev pub pieceText : List ℕ → Piece → List ℕ
 pieceText template (keeps first width) = stretch first width template
-pieceText template (whole n) = integerText 6 (pos n)
-pieceText template (real z) = realText 15 68 24 z
+pieceText template (wholeSent n) = integerText 6 (pos n)
+pieceText template (realSent z) = realText 15 68 24 z
 pieceText template (spacing v) = realText 6 69 12 (pos v)
 
 abbrev pub cornerPieces : Corner → List Piece
-cornerPieces c = real (c .x) ∷ real (c .y) ∷ []
+cornerPieces c = realSent (c .x) ∷ realSent (c .y) ∷ []
 
 -- the cells of the sheet
 abbrev pub sheetCells : Header → List ℤ → List ℤ
@@ -43,27 +43,27 @@ sheetCells h grid = take (cellsOf h) grid
 unfoldable pub piecesBy : Header → ℤ → ℤ → ℕ → List Piece
 piecesBy h least greatest columns =
     keeps 1 144
-    ∷ whole (h .level)
-    ∷ whole 1
-    ∷ whole (h .system)
-    ∷ whole (h .zone)
+    ∷ wholeSent (h .level)
+    ∷ wholeSent 1
+    ∷ wholeSent (h .system)
+    ∷ wholeSent (h .zone)
     ∷ keeps 169 360
-    ∷ whole (h .ground)
-    ∷ whole (h .vertical)
-    ∷ whole 4
+    ∷ wholeSent (h .ground)
+    ∷ wholeSent (h .vertical)
+    ∷ wholeSent 4
     ∷ (cornerPieces (h .sw)
     ++ (cornerPieces (h .nw)
     ++ (cornerPieces (h .ne)
     ++ (cornerPieces (h .se)
-    ++ (real least
-    ∷ real greatest
-    ∷ real (pos 0)
-    ∷ whole 0
+    ++ (realSent least
+    ∷ realSent greatest
+    ∷ realSent (pos 0)
+    ∷ wholeSent 0
     ∷ spacing (h .xstep)
     ∷ spacing (h .ystep)
     ∷ spacing (h .zstep)
-    ∷ whole 1
-    ∷ whole columns
+    ∷ wholeSent 1
+    ∷ wholeSent columns
     ∷ keeps 865 160
     ∷ [])))))
 
