@@ -1,10 +1,19 @@
-// The calls of the desk program in C: include/desk.h names the same types. Each is thin over a proved reading.
+// The calls of the desk program in C: include/desk.h names the same types. Each is thin over a proved function.
 ghost use mathlib.Core.Path.{_≡_};
 ghost use Rattle.number.specs.Integer.{integer};
 ghost use Rattle.number.specs.Real.{real};
 ghost use Rattle.label.specs.Label.{originOf, nameLength};
 ghost use Rattle.sheet.specs.RecordA.{recordA, checkedKind, checkedByte};
+ghost use lib.ListN.{length};
+ghost use Rattle.session.specs.Session.{fresh};
+ghost use Rattle.delivery.specs.Deliver.{answerKind, answerPlace};
+ghost use Rattle.lines.specs.Lines.{Given};
+ghost use Rattle.slip.specs.Slip.{handed};
+ghost use Rattle.ledger.specs.Ledger.{openKind, opened, deliveredTo, gridLeft, numbersLeft, soundSaid, completeSaid, reportSaid};
+ghost use Rattle.written.specs.Sending.{blockObjection, blockAfter, countOf, sentBy, sentKind, sheetSentObjection, sheetAfter};
+ghost use Rattle.desk.specs.Calls.{oneIf, columnsChecked, rowsChecked, sentBeside};
 use sheet::Checked;
+use written::Sent;
 
 // 0, or document 01's number of the refusal.
 #[no_mangle]
@@ -79,4 +88,127 @@ pub extern "C" fn dem_name_length(block: &[u8]) -> usize
 {
     let name = label::name(block);
     name.len()
+}
+
+// A fresh session: 0, or 12 and nothing changed where there are too few numbers.
+#[no_mangle]
+pub extern "C" fn dem_open(session: &mut [i64]) -> u32
+    ensures { λ r. ⌜ (r ≡ openKind (now (session .entry))) × (now (session .exit) ≡ opened fresh (now (session .entry))) ⌝ }
+{
+    ledger::open(session)
+}
+
+// One delivery: 0 taken, 255 held, else document 01's kind; beside it block and byte. Only a taken block changes session and grid.
+#[no_mangle]
+pub extern "C" fn dem_deliver(
+    session: &mut [i64],
+    number: u32,
+    block: &[u8],
+    grid: &mut [i32],
+    answer: &mut [u64],
+) -> u32
+    ensures { λ r. ⌜ (r ≡ answerKind (deliveredTo (now (session .entry)) number (now (block .entry)) (now (grid .entry)) .answer)) × ((now (session .exit) ≡ numbersLeft (now (session .entry)) number (now (block .entry)) (now (grid .entry))) × ((now (grid .exit) ≡ gridLeft (now (session .entry)) number (now (block .entry)) (now (grid .entry))) × (now (answer .exit) ≡ handed (answerPlace (deliveredTo (now (session .entry)) number (now (block .entry)) (now (grid .entry)) .answer)) (now (answer .entry))))) ⌝ }
+{
+    ledger::deliver(session, number, block, grid, answer)
+}
+
+fn one_if(b: bool) -> u32
+    ensures { λ r. ⌜ r ≡ oneIf b ⌝ }
+{
+    if b { 1 } else { 0 }
+}
+
+#[no_mangle]
+pub extern "C" fn dem_is_sound(session: &[i64]) -> u32
+    ensures { λ r. ⌜ r ≡ oneIf (soundSaid (now (session .entry))) ⌝ }
+{
+    one_if(ledger::is_sound(session))
+}
+
+#[no_mangle]
+pub extern "C" fn dem_is_complete(session: &[i64]) -> u32
+    ensures { λ r. ⌜ r ≡ oneIf (completeSaid (now (session .entry))) ⌝ }
+{
+    one_if(ledger::is_complete(session))
+}
+
+// The columns and rows of a record A's sheet, so that a caller knows how large a grid to lend; 0 where it is refused.
+#[no_mangle]
+pub extern "C" fn dem_columns(block: &[u8]) -> u64
+    ensures { λ r. ⌜ r ≡ columnsChecked (recordA (now (block .entry))) ⌝ }
+{
+    match sheet::check_record_a(block) {
+        Checked::Sheet(h) => frame::columns(h),
+        Checked::Refused(_, _) => 0,
+    }
+}
+
+#[no_mangle]
+pub extern "C" fn dem_rows(block: &[u8]) -> u64
+    ensures { λ r. ⌜ r ≡ rowsChecked (recordA (now (block .entry))) ⌝ }
+{
+    match sheet::check_record_a(block) {
+        Checked::Sheet(h) => frame::rows(h),
+        Checked::Refused(_, _) => 0,
+    }
+}
+
+// How many blocks a template and grid have; 0 where they are refused.
+#[no_mangle]
+pub extern "C" fn dem_block_count(template: &[u8], grid: &[i32]) -> u64
+    ensures { λ r. ⌜ r ≡ countOf (now (template .entry)) (now (grid .entry)) ⌝ }
+{
+    send::block_count(template, grid)
+}
+
+// The writer's answer: 0 written, else document 01's kind; beside it its one number.
+fn tell(sent: Sent, answer: &mut [u64]) -> u32
+    ensures { λ r. ⌜ (r ≡ sentKind sent) × (now (answer .exit) ≡ handed (sentBeside sent) (now (answer .entry))) ⌝ }
+{
+    match sent {
+        Sent::Written => {
+            slip::hand(&[0], answer);
+            0
+        }
+        Sent::Refused(kind, number) => {
+            slip::hand(&[number], answer);
+            kind
+        }
+    }
+}
+
+#[no_mangle]
+pub extern "C" fn dem_write_block(
+    template: &[u8],
+    grid: &[i32],
+    number: u32,
+    block: &mut [u8],
+    answer: &mut [u64],
+) -> u32
+    ensures { λ r. ⌜ (r ≡ sentKind (sentBy (blockObjection (now (template .entry)) (now (grid .entry)) number (length (now (block .entry)))))) × ((now (block .exit) ≡ blockAfter (now (template .entry)) (now (grid .entry)) number (now (block .entry))) × (now (answer .exit) ≡ handed (sentBeside (sentBy (blockObjection (now (template .entry)) (now (grid .entry)) number (length (now (block .entry)))))) (now (answer .entry)))) ⌝ }
+{
+    let sent = send::write_block(template, grid, number as u64, block);
+    tell(sent, answer)
+}
+
+// The whole sheet into `out`, which has exactly block count × 1,024 bytes; 1 with 0 else, after all other refusals.
+#[no_mangle]
+pub extern "C" fn dem_write_sheet(
+    template: &[u8],
+    grid: &[i32],
+    out: &mut [u8],
+    answer: &mut [u64],
+) -> u32
+    ensures { λ r. ⌜ (r ≡ sentKind (sentBy (sheetSentObjection (now (template .entry)) (now (grid .entry)) (length (now (out .entry)))))) × ((now (out .exit) ≡ sheetAfter (now (template .entry)) (now (grid .entry)) (now (out .entry))) × (now (answer .exit) ≡ handed (sentBeside (sentBy (sheetSentObjection (now (template .entry)) (now (grid .entry)) (length (now (out .entry)))))) (now (answer .entry)))) ⌝ }
+{
+    let sent = send::write_sheet(template, grid, out);
+    tell(sent, answer)
+}
+
+// The lister's four lines of a complete session; 0, and nothing changed, for any other or where they do not fit.
+#[no_mangle]
+pub extern "C" fn dem_report(session: &[i64], out: &mut [u8]) -> usize
+    ensures { λ r. ⌜ Given (reportSaid (now (session .entry))) (now (out .entry)) (now (out .exit)) r ⌝ }
+{
+    ledger::report(session, out)
 }

@@ -7,6 +7,11 @@ use borrow.Fn.World.{ArgsD, ResD}
 use Rattle.delivery.specs.Deliver.{lend}
 use Rattle.meaning.specs.Deliveries.{Promised}
 use Rattle.returns.specs.Writers.{Wrote, WroteSheet}
+use Rattle.office.specs.DeskCalls.{OpenPromised, DeskPromised}
+use Rattle.desk.proofs.«dem_open» as dem-open
+use Rattle.desk.proofs.«dem_open».Reads as dem-open·reads
+use Rattle.desk.proofs.dem_deliver as dem_deliver
+use Rattle.desk.proofs.dem_deliver.Reads as dem_deliver·reads
 use Rattle.load.proofs.deliver as deliver
 use Rattle.load.proofs.deliver.Reads as deliver·reads
 use Rattle.send.proofs.write_block as write_block
@@ -34,3 +39,20 @@ pub write-sheet-promises : (κs : Lfts 3) (a : ArgsD write_sheet.signature κs) 
     → write_sheet·reads.Learnt κs a z e
     → WroteSheet (now (a .0)) (now (a .1 .0)) record { lent = now (a .1 .1 .0); returned = z; left = now (e .1 .1 .0) }
 write-sheet-promises κs a z e told = record { answers = told .0; writes = told .1 }
+
+pub dem-open-promises : (κs : Lfts 1) (a : ArgsD dem-open.signature κs) (z : ResD dem-open.signature κs) (e : AtExit dem-open.ended κs)
+    → dem-open·reads.Learnt κs a z e → OpenPromised (now (a .0)) z (now (e .0))
+dem-open-promises κs a z e told = record { tells = told .0; keeps = told .1 }
+
+pub dem-deliver-promises : (κs : Lfts 4) (a : ArgsD dem_deliver.signature κs) (z : ResD dem_deliver.signature κs) (e : AtExit dem_deliver.ended κs)
+    → dem_deliver·reads.Learnt κs a z e
+    → DeskPromised (now (a .0)) (now (a .1 .1 .1 .0))
+    record {
+      sent = record { number = a .1 .0; bytes = now (a .1 .1 .0) };
+      lent = now (a .1 .1 .1 .1 .0);
+      result = z;
+      session = now (e .0);
+      grid = now (e .1 .1 .1 .0);
+      answer = now (e .1 .1 .1 .1 .0);
+    }
+dem-deliver-promises κs a z e told = record { tells = told .0; keeps = told .1 .0; fills = told .1 .1 .0; hands = told .1 .1 .1 }

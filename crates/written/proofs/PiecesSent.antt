@@ -20,6 +20,7 @@ use Rattle.frame.specs.declared.Corner.{Corner}
 use Rattle.frame.specs.Frame.{columnsOf}
 use Rattle.heading.specs.Heading.{headerObeys, isRealNumber, cornerReal}
 use Rattle.heading.proofs.HeadingFacts.{header-facts, Ranged, spacingLimits}
+use Rattle.heading.proofs.Modest.{modest}
 use Rattle.ground.specs.Extremes.{leastStated, greatestStated}
 use Rattle.spell.specs.Spell.{integerFits, realFits}
 use Rattle.spell.proofs.Fits.{integer-length, real-length, integer-fits, thousands-fit, fits-real, whole-spacing-fits, fine-spacing-fits}
@@ -70,47 +71,6 @@ module _ (template : List ℕ) (long : length template ≡ 1024) where
       length-append (pieceText template p) (joined (map (pieceText template) ps))
       ∙ ap₂ _+_ (piece-length p (and-first (pieceFits p) (all pieceFits ps) t))
       (pieces-length ps (and-second (pieceFits p) (all pieceFits ps) t))
-
--- ---- the numbers of a good header that have no sign
-
-most : (l : Limits) (v : ℕ) → inRange l v ≡ true → v ≤ l .greatest
-most l v t = leb-true v (l .greatest) (and-first (leb v (l .greatest)) _ (and-second (leb (l .least) v) _ t))
-
-zone-most : (a b : Bool) (v : ℕ)
-    → inRange (cond a (limits 0 0 1 9) (cond b (limits 1 60 1 9) (limits 1 9999 1 9))) v ≡ true → v ≤ 9999
-zone-most true b v t = omega (arith, most (limits 0 0 1 9) v t)
-zone-most false true v t = omega (arith, most (limits 1 60 1 9) v t)
-zone-most false false v t = omega (arith, most (limits 1 9999 1 9) v t)
-
-ground-most : (a b : Bool) (v : ℕ)
-    → inRange (cond a (limits 3 3 1 9) (cond b (limits 2 2 1 9) (limits 1 2 1 9))) v ≡ true → v ≤ 9999
-ground-most true b v t = omega (arith, most (limits 3 3 1 9) v t)
-ground-most false true v t = omega (arith, most (limits 2 2 1 9) v t)
-ground-most false false v t = omega (arith, most (limits 1 2 1 9) v t)
-
-pub record Modest (h : Header) : Type 0 where
-  pub level : h .level ≤ 9999
-  pub system : h .system ≤ 9999
-  pub zone : h .zone ≤ 9999
-  pub ground : h .ground ≤ 9999
-  pub vertical : h .vertical ≤ 9999
-  pub xstep : h .xstep ≤ 9999 * 10 ^ 9
-  pub ystep : h .ystep ≤ 9999 * 10 ^ 9
-  pub zstep : h .zstep ≤ 10 ^ 9
-
-pub modest : (h : Header) → headerObeys h ≡ true → Modest h
-modest h good =
-    let f = header-facts h good in
-    record {
-      level = omega (arith, f .level .greatest);
-      system = omega (arith, f .system);
-      zone = zone-most (eqb (h .system) 0) (eqb (h .system) 1) (h .zone) (f .zone);
-      ground = ground-most (eqb (h .system) 0) (eqb (h .system) 1) (h .ground) (f .ground);
-      vertical = omega (arith, f .vertical .greatest);
-      xstep = f .xstep .greatest;
-      ystep = f .ystep .greatest;
-      zstep = omega (arith, f .zstep .greatest, f .zstep .step);
-    }
 
 pub small-fits : (n : ℕ) → n ≤ 9999 → integerFits 6 (pos n) ≡ true
 small-fits n h = integer-fits 5 6 (pos n) (omega arith) (omega arith) (omega arith) (omega arith)

@@ -1,0 +1,4 @@
+pub mod Counts
+pub mod Keeping
+pub mod Inverse
+pub mod OneAnswer
