@@ -31,6 +31,24 @@ uint32_t dem_origin(const uint8_t *block, size_t length);
 /* How many bytes of a record A, from its first, are the sheet's name; 0 where it is blank, or for another length. */
 size_t dem_name_length(const uint8_t *block, size_t length);
 
+/* How many numbers a session has, and the result that says a block is held. */
+#define DEM_SESSION 37
+#define DEM_HELD 255
+
+uint32_t dem_open(int64_t *session, size_t numbers);
+uint32_t dem_deliver(int64_t *session, size_t numbers, uint32_t number, const uint8_t *block, size_t length, int32_t *grid,
+                     size_t cells, uint64_t *answer, size_t room);
+uint32_t dem_is_sound(const int64_t *session, size_t numbers);
+uint32_t dem_is_complete(const int64_t *session, size_t numbers);
+uint64_t dem_columns(const uint8_t *block, size_t length);
+uint64_t dem_rows(const uint8_t *block, size_t length);
+uint64_t dem_block_count(const uint8_t *template_block, size_t length, const int32_t *grid, size_t cells);
+uint32_t dem_write_block(const uint8_t *template_block, size_t length, const int32_t *grid, size_t cells, uint32_t number,
+                         uint8_t *block, size_t block_length, uint64_t *answer, size_t room);
+uint32_t dem_write_sheet(const uint8_t *template_block, size_t length, const int32_t *grid, size_t cells, uint8_t *out,
+                         size_t out_length, uint64_t *answer, size_t room);
+size_t dem_report(const int64_t *session, size_t numbers, uint8_t *out, size_t length);
+
 #ifdef __cplusplus
 }
 #endif

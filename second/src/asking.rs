@@ -10,17 +10,18 @@ use std::process::{Child, ChildStdin, ChildStdout, Command, Stdio};
 /// Neither pipe may be full with both sides writing: so many bytes of questions, and far
 /// fewer of answers, fit.
 const MOST_WAITING: usize = 30_000;
-/// The C side lends the bytes of a question in two surroundings, and answers for both.
-const SURROUNDINGS: usize = 2;
-
 /// What a program is asked, with what this one says of it.
 pub trait Question {
     /// The byte before a question of this sort.
-    const SORT: u8;
-    /// Bytes of an answer to it.
-    const ANSWER: usize;
+    fn sort(&self) -> u8;
 
     fn bytes(&self) -> &[u8];
+
+    /// In how many surroundings the C side lends the bytes; it answers for each.
+    fn surroundings(&self) -> usize;
+
+    /// Bytes of one answer.
+    fn answer_length(&self) -> usize;
 
     /// A difference ends the run.
     fn demand_same(&self, answer: &[u8]);
@@ -64,7 +65,7 @@ pub fn ask_all<Asked: Question>(
 }
 
 impl<Asked: Question> Asking<Asked> {
-    fn of(program: &str) -> Result<Asking<Asked>, String> {
+    pub fn of(program: &str) -> Result<Asking<Asked>, String> {
         let started = Command::new(program)
             .stdin(Stdio::piped())
             .stdout(Stdio::piped())
@@ -81,29 +82,32 @@ impl<Asked: Question> Asking<Asked> {
         })
     }
 
-    fn ask(&mut self, question: Asked) {
+    pub fn ask(&mut self, question: Asked) {
         let bytes = question.bytes();
         let length = u32::try_from(bytes.len()).expect("no text is that long");
         let sent = self
             .questions
-            .write_all(&[Asked::SORT])
+            .write_all(&[question.sort()])
             .and_then(|()| self.questions.write_all(&length.to_le_bytes()))
             .and_then(|()| self.questions.write_all(bytes));
         sent.expect("the program asked takes every question");
-        self.waiting += (5 + bytes.len()).max(SURROUNDINGS * Asked::ANSWER);
+        self.waiting += (5 + bytes.len()).max(length_of_answers(&question));
         self.open.push(question);
         if self.waiting > MOST_WAITING {
             self.hold_against_answers();
         }
     }
 
-    /// Holds every open question against both its answers.
-    fn hold_against_answers(&mut self) {
-        let of_one = SURROUNDINGS * Asked::ANSWER;
-        let answers = self.take(self.open.len() * of_one);
-        for (question, both) in self.open.iter().zip(answers.chunks(of_one)) {
-            for answer in both.chunks(Asked::ANSWER) {
+    /// Holds every open question against all its answers.
+    pub fn hold_against_answers(&mut self) {
+        let bytes = self.open.iter().map(length_of_answers).sum();
+        let taken = self.take(bytes);
+        let mut answers = taken.as_slice();
+        for question in &self.open {
+            for _ in 0..question.surroundings() {
+                let (answer, rest) = answers.split_at(question.answer_length());
                 question.demand_same(answer);
+                answers = rest;
             }
         }
         self.open.clear();
@@ -148,6 +152,10 @@ impl<Asked: Question> Asking<Asked> {
             Err(fault) => Err(format!("the program asked was lost: {fault}")),
         }
     }
+}
+
+fn length_of_answers(question: &impl Question) -> usize {
+    question.surroundings() * question.answer_length()
 }
 
 /// A number of four bytes, the least first, from a place.

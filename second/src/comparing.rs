@@ -214,27 +214,35 @@ pub struct Wanted {
 
 /// How often things were seen, by their names.
 #[derive(Default)]
-struct Counts {
+pub struct Counts {
     times: BTreeMap<String, usize>,
 }
 
 impl Counts {
+    pub fn see(&mut self, name: impl Into<String>) {
+        *self.times.entry(name.into()).or_default() += 1;
+    }
+
+    pub fn all(&self) -> usize {
+        self.times.values().sum()
+    }
+
     fn of<'a>(names: impl Iterator<Item = &'a str>) -> Counts {
         let mut counts = Counts::default();
         for name in names {
-            *counts.times.entry(name.to_string()).or_default() += 1;
+            counts.see(name);
         }
         counts
     }
 
-    fn print(&self, title: &str, wanted: &[impl AsRef<str>]) {
+    pub fn print(&self, title: &str, wanted: &[impl AsRef<str>]) {
         println!("{title}");
         for name in wanted.iter().map(AsRef::as_ref) {
             println!("  {name:<28} {:>7}", self.times.get(name).unwrap_or(&0));
         }
     }
 
-    fn never_seen(&self, wanted: &[impl AsRef<str>]) -> Vec<String> {
+    pub fn never_seen(&self, wanted: &[impl AsRef<str>]) -> Vec<String> {
         let names = wanted.iter().map(AsRef::as_ref);
         let missing = names.filter(|&name| !self.times.contains_key(name));
         missing.map(|name| format!("{name} never seen")).collect()

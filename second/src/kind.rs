@@ -1,7 +1,8 @@
 //! The kinds of refusal, by the numbers document 01 gives them. Kind 2, an unsound
-//! session, cannot come up here: a session of this program is only the blocks it took.
+//! session, comes up only where a session is numbers: one of blocks taken is always sound.
 
 pub const WRONG_LENGTH: u32 = 1;
+pub const UNSOUND: u32 = 2;
 pub const TOO_EARLY: u32 = 3;
 pub const SHEET_COMPLETE: u32 = 4;
 pub const WRONG_TEXT: u32 = 5;

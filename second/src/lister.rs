@@ -4,8 +4,8 @@
 
 use crate::block::{BLOCK_LENGTH, UNIT};
 use crate::kind::{GRID_TOO_SHORT, SHEET_COMPLETE, WRONG_LENGTH};
-use crate::meaning::{in_block, read, Block, Refusal, Sheet};
-use crate::record_a;
+use crate::meaning::{in_block, read, Block, Figures, Refusal, Sheet};
+use crate::record_a::{self, Header};
 
 #[derive(Clone, Debug)]
 pub enum Outcome {
@@ -48,15 +48,15 @@ impl Outcome {
     /// What the program writes.
     pub fn output(&self) -> String {
         match self {
-            Outcome::Listed(sheet) => listing(sheet),
+            Outcome::Listed(sheet) => lines(&sheet.header, &sheet.figures(), sheet.blocks),
             Outcome::Unfinished(taken) => format!("unfinished {taken}\n"),
             Outcome::Refused(refusal) => refusal.line(),
         }
     }
 }
 
-fn listing(sheet: &Sheet) -> String {
-    let (header, figures) = (&sheet.header, sheet.figures());
+/// The four lines of a complete sheet of so many blocks.
+pub fn lines(header: &Header, figures: &Figures, blocks: usize) -> String {
     format!(
         "sheet {} {} {} {} {}\nposts {} void {}\nrange {} {}\nend {}\n",
         header.rows().count(),
@@ -68,7 +68,7 @@ fn listing(sheet: &Sheet) -> String {
         figures.posts - figures.filled,
         two_decimals(figures.least),
         two_decimals(figures.greatest),
-        sheet.blocks
+        blocks
     )
 }
 

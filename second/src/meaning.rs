@@ -3,7 +3,7 @@
 
 use crate::block::{Fault, Record, HUNDREDTH};
 use crate::kind::WRONG_EXTREME;
-use crate::profile::Profile;
+use crate::profile::{Profile, Turn};
 use crate::record_a::{self, Header};
 use crate::record_c;
 
@@ -80,7 +80,11 @@ pub fn in_block(block: usize, (kind, byte): Fault) -> Refusal {
 impl Sheet {
     /// Reads the profile whose first block is `first`; answers the block after it.
     fn read_profile(&mut self, text: &[Block], first: usize) -> Result<usize, Refusal> {
-        let mut profile = Profile::start(&text[first], &self.header, &self.profiles)
+        let turn = Turn {
+            number: self.profiles.len() as i64 + 1,
+            next_column: self.profiles.last().map(|neighbour| neighbour.column + 1),
+        };
+        let mut profile = Profile::start(&text[first], &self.header, &turn)
             .map_err(|fault| in_block(first, fault))?;
         let mut next = first + 1;
         while next < text.len() && !profile.closed() {
@@ -134,7 +138,7 @@ impl Sheet {
         }
     }
 
-    fn filled_elevations(&self, profiles: &[Profile]) -> Vec<i64> {
+    pub fn filled_elevations(&self, profiles: &[Profile]) -> Vec<i64> {
         let z_spacing = self.header.z_spacing;
         let of_profile = |profile: &Profile| profile.elevations(z_spacing);
         profiles.iter().flat_map(of_profile).flatten().collect()
@@ -177,7 +181,7 @@ impl Sheet {
 }
 
 /// Stated billionths against worked-out hundredths, exactly.
-fn demand_extreme(stated: i64, found: i64, block: usize, byte: u32) -> Result<(), Refusal> {
+pub fn demand_extreme(stated: i64, found: i64, block: usize, byte: u32) -> Result<(), Refusal> {
     if stated == found * HUNDREDTH {
         Ok(())
     } else {

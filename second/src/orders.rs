@@ -3,7 +3,7 @@
 
 mod bad;
 mod ground;
-mod heights;
+pub mod heights;
 pub mod shown;
 mod templates;
 pub mod whole;

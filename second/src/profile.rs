@@ -26,10 +26,17 @@ pub struct Profile {
     pub posts: Vec<i64>,
 }
 
+/// Where a profile comes in its sheet: its number, counted from 1, and the column that
+/// the one before it leaves; None for the first.
+pub struct Turn {
+    pub number: i64,
+    pub next_column: Option<i64>,
+}
+
 impl Profile {
-    /// The profile that follows those in `before`, from its first block.
-    pub fn start(block: &[u8], header: &Header, before: &[Profile]) -> Result<Profile, Fault> {
-        let number = before.len() as i64 + 1;
+    /// The profile whose turn it is, from its first block.
+    pub fn start(block: &[u8], header: &Header, turn: &Turn) -> Result<Profile, Fault> {
+        let number = turn.number;
         integer_within(block, 1, 1..=1, WRONG_CODE)?;
         integer_within(block, 7, number..=number, WRONG_CODE)?;
         let length = integer_within(block, 13, 1..=MOST, OUT_OF_RANGE)? as usize;
@@ -41,7 +48,7 @@ impl Profile {
         let stated_greatest = real(block, 121, REAL_WIDTH)?;
         let posts = read_posts(block, FIRST_POST, length.min(POSTS_OF_FIRST_BLOCK))?;
         // Place rules look at the whole record, so they come last (READINGS 18, 19).
-        let column = column_of(x, header, before).ok_or((WRONG_PLACE, 25))?;
+        let column = column_of(x, header, turn).ok_or((WRONG_PLACE, 25))?;
         let row = row_of(y, header, length as i64).ok_or((WRONG_PLACE, 49))?;
         Ok(Profile {
             column,
@@ -55,8 +62,7 @@ impl Profile {
     }
 
     pub fn read_further_block(&mut self, block: &[u8]) -> Result<(), Fault> {
-        let left = self.length - self.posts.len();
-        let posts = read_posts(block, 1, left.min(POSTS_OF_FURTHER_BLOCK))?;
+        let posts = further_posts(block, self.length - self.posts.len())?;
         self.posts.extend(posts);
         Ok(())
     }
@@ -80,6 +86,11 @@ pub fn elevation(post: i64, z_spacing: i64, datum: i64) -> Option<i64> {
     Some(post * (z_spacing / HUNDREDTH) + datum / HUNDREDTH)
 }
 
+/// The posts of a further block when so many are left.
+pub fn further_posts(block: &[u8], left: usize) -> Result<Vec<i64>, Fault> {
+    read_posts(block, 1, left.min(POSTS_OF_FURTHER_BLOCK))
+}
+
 fn read_datum(block: &[u8]) -> Result<i64, Fault> {
     let datum = real(block, 73, REAL_WIDTH)?;
     let permitted = datum % HUNDREDTH == 0 && datum.abs() <= GREATEST_DATUM;
@@ -100,12 +111,12 @@ fn read_posts(block: &[u8], first: usize, count: usize) -> Result<Vec<i64>, Faul
 }
 
 /// The first profile may stand wherever all n have room, each next one right beside it.
-fn column_of(x: i64, header: &Header, before: &[Profile]) -> Option<i64> {
+fn column_of(x: i64, header: &Header, turn: &Turn) -> Option<i64> {
     let columns = header.columns();
     let column = columns.place_of(x)?;
-    let permitted = match before.last() {
+    let permitted = match turn.next_column {
         None => column + header.n <= columns.count(),
-        Some(neighbour) => column == neighbour.column + 1,
+        Some(next) => column == next,
     };
     permitted.then_some(column)
 }

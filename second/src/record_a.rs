@@ -86,7 +86,7 @@ fn check_text(block: &[u8], first: usize, last: usize) -> Result<(), Fault> {
     demand(all_permitted, WRONG_TEXT, first)
 }
 
-fn zones_of(system: i64) -> RangeInclusive<i64> {
+pub fn zones_of(system: i64) -> RangeInclusive<i64> {
     match system {
         0 => 0..=0,
         1 => 1..=60,
@@ -94,7 +94,7 @@ fn zones_of(system: i64) -> RangeInclusive<i64> {
     }
 }
 
-fn ground_units_of(system: i64) -> RangeInclusive<i64> {
+pub fn ground_units_of(system: i64) -> RangeInclusive<i64> {
     match system {
         0 => 3..=3,
         1 => 2..=2,

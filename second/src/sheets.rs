@@ -93,7 +93,7 @@ pub fn paper_plan(dice: &mut Dice) -> Plan {
 }
 
 /// Two groups of code, three errors and a count; zeros under code 0.
-fn statistics(dice: &mut Dice) -> [i64; 10] {
+pub fn statistics(dice: &mut Dice) -> [i64; 10] {
     let mut numbers = [0; 10];
     for group in numbers.chunks_mut(5) {
         let code = dice.between(0, 1);
@@ -123,7 +123,7 @@ impl Plan {
         if self.head.numbers.accuracy == 1 {
             sent.push(Sent {
                 record: Record::Statistics,
-                bytes: self.statistics_block(dice),
+                bytes: statistics_block(dice, &self.statistics),
             });
         }
         sent
@@ -181,15 +181,15 @@ impl Plan {
             greatest * HUNDREDTH,
         ]
     }
+}
 
-    fn statistics_block(&self, dice: &mut Dice) -> Vec<u8> {
-        let mut block = vec![b' '; BLOCK_LENGTH];
-        for (index, &value) in self.statistics.iter().enumerate() {
-            let first = 1 + index * INTEGER_WIDTH;
-            put(&mut block, first, &hand::integer(dice, value));
-        }
-        block
+pub fn statistics_block(dice: &mut Dice, numbers: &[i64; 10]) -> Vec<u8> {
+    let mut block = vec![b' '; BLOCK_LENGTH];
+    for (index, &value) in numbers.iter().enumerate() {
+        let first = 1 + index * INTEGER_WIDTH;
+        put(&mut block, first, &hand::integer(dice, value));
     }
+    block
 }
 
 fn extremes(filled: Vec<i64>) -> (i64, i64) {

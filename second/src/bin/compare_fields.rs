@@ -38,12 +38,21 @@ impl Readings {
 }
 
 impl Question for Readings {
-    const SORT: u8 = b'f';
-    /// Kind and value of an integer, kind and value of a real.
-    const ANSWER: usize = 24;
+    fn sort(&self) -> u8 {
+        b'f'
+    }
 
     fn bytes(&self) -> &[u8] {
         &self.text
+    }
+
+    fn surroundings(&self) -> usize {
+        2
+    }
+
+    /// Kind and value of an integer, kind and value of a real.
+    fn answer_length(&self) -> usize {
+        24
     }
 
     fn demand_same(&self, answer: &[u8]) {

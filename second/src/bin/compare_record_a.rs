@@ -49,12 +49,21 @@ struct Judged {
 }
 
 impl Question for Judged {
-    const SORT: u8 = b'a';
-    /// Kind, byte, origin, length of the name.
-    const ANSWER: usize = 16;
+    fn sort(&self) -> u8 {
+        b'a'
+    }
 
     fn bytes(&self) -> &[u8] {
         &self.block
+    }
+
+    fn surroundings(&self) -> usize {
+        2
+    }
+
+    /// Kind, byte, origin, length of the name.
+    fn answer_length(&self) -> usize {
+        16
     }
 
     fn demand_same(&self, answer: &[u8]) {

@@ -69,7 +69,7 @@ pub fn profiles(dice: &mut Dice) -> Script {
     for number in 1..knowing.line.blocks.len() {
         for _ in 0..dice.size(0, 8) {
             let sent = &knowing.line.blocks[number];
-            let block = damaged_profile_block(dice, &plan, sent);
+            let block = damaged_profile_block(dice, &plan.head.numbers, sent);
             knowing.send_damaged(dice, number, &block);
         }
         knowing.send_right(number);

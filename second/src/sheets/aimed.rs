@@ -1,16 +1,17 @@
 //! Damage aimed at one rule: a profile's fields, posts and place, and the stated extremes.
 
 use super::damage::{damaged, fields_of, nudge, post_field, Field};
-use super::{put, Plan, Sent};
+use super::{put, Sent};
 use crate::block::{Record, BLOCK_LENGTH, HUNDREDTH, INTEGER_WIDTH, UNIT};
 use crate::dice::Dice;
 use crate::profile::{POSTS_OF_FIRST_BLOCK, POSTS_OF_FURTHER_BLOCK};
+use crate::record_a::Header;
 
 /// A block of a profile with some of its fields or posts replaced, moved or shifted.
-pub fn damaged_profile_block(dice: &mut Dice, plan: &Plan, sent: &Sent) -> Vec<u8> {
+pub fn damaged_profile_block(dice: &mut Dice, header: &Header, sent: &Sent) -> Vec<u8> {
     let mut block = sent.bytes.clone();
     match sent.record {
-        Record::ProfileStart => damage_start(dice, plan, &mut block),
+        Record::ProfileStart => damage_start(dice, header, &mut block),
         Record::ProfileRest if dice.one_in(2) => {
             let any = dice.size(0, POSTS_OF_FURTHER_BLOCK - 1);
             replace(dice, &[post_field(sent.record, any)], &mut block);
@@ -22,10 +23,11 @@ pub fn damaged_profile_block(dice: &mut Dice, plan: &Plan, sent: &Sent) -> Vec<u
 
 /// A wrong place alone, or together with a fault that is judged before or after it: a
 /// loader that keeps anything of such a block goes wrong with the right one.
-fn damage_start(dice: &mut Dice, plan: &Plan, block: &mut [u8]) {
+fn damage_start(dice: &mut Dice, header: &Header, block: &mut [u8]) {
+    let (columns, rows) = (header.columns().count(), header.rows().count());
     let (eastward, northward) = (
-        (25, plan.head.numbers.x_spacing, plan.head.columns),
-        (49, plan.head.numbers.y_spacing, plan.head.rows),
+        (25, header.x_spacing, columns),
+        (49, header.y_spacing, rows),
     );
     let choice = dice.size(0, 7);
     if choice <= 4 {
@@ -37,7 +39,7 @@ fn damage_start(dice: &mut Dice, plan: &Plan, block: &mut [u8]) {
     match choice {
         1 | 6 => replace(dice, fields_of(Record::ProfileStart), block),
         2 | 7 => {
-            let last = (POSTS_OF_FIRST_BLOCK - 1).min(plan.head.rows as usize);
+            let last = (POSTS_OF_FIRST_BLOCK - 1).min(rows as usize);
             let any = dice.size(0, last);
             replace(dice, &[post_field(Record::ProfileStart, any)], block);
         }

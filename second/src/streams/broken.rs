@@ -39,7 +39,7 @@ pub fn profiles(dice: &mut Dice, _cells: usize) -> Vec<u8> {
                 spoil_a_real(dice, sent.record, &mut sent.bytes)
             }
             2 => replace(dice, &[post_field(sent.record, 0)], &mut sent.bytes),
-            _ => sent.bytes = damaged_profile_block(dice, &plan, sent),
+            _ => sent.bytes = damaged_profile_block(dice, &plan.head.numbers, sent),
         }
     }
     sent_on(dice, &blocks)

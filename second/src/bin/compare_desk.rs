@@ -1,0 +1,371 @@
+//! Compares the C calls on sessions and of the writer, asked through PROGRAM
+//! (`examples/answers.c`), with what this program says of them: result, every number of the
+//! session, every cell, every byte and slot lent. Status 0: no difference. Status 1: a
+//! difference, or too little was compared. Usage: compare_desk PROGRAM [SEED]
+
+use second::asking::Asking;
+use second::block::Record;
+use second::comparing::{arguments, finish, number, Counts};
+use second::crafted::{self, Crafted};
+use second::desk::{self, Call, Delivery, Left};
+use second::dice::Dice;
+use second::kept::clauses::{self, CLAUSES, NEGATIVE, TOO_FEW};
+use second::kept::{self, HELD, NAMES, NUMBERS};
+use second::kind::GRID_TOO_SHORT;
+use second::presses;
+use second::record_a::{self, Header};
+use second::sheets::damage::damaged;
+use second::sheets::{head, Sent};
+use second::writings::{self, Asked};
+
+const USAGE: &str = "compare_desk PROGRAM [SEED]";
+const USUAL_SEED: u64 = 19_970_106;
+const FEWEST_CRAFTED: usize = 100_000;
+const FEWEST_OF_SHEETS: usize = 3_000;
+const FEWEST_BLOCKS: usize = 3_000;
+const FEWEST_SHEETS: usize = 1_500;
+
+/// A session with no column has fewer than n, so this clause is never broken alone.
+const NEVER_ALONE: &str = "1 column or more";
+
+struct Run {
+    desk: Asking<Call>,
+    dice: Dice,
+    families: Counts,
+    crafted: Counts,
+    of_sheets: Counts,
+    /// Clauses that alone made a session unsound.
+    broken: Counts,
+    /// Numbers that were altered alone, and what the session then was.
+    altered: Counts,
+    sessions: Counts,
+    /// What was lent, and what came of it.
+    lent: Counts,
+    blocks: Counts,
+    sheets: Counts,
+    hidden: Counts,
+    hidden_of_sheets: Counts,
+}
+
+impl Run {
+    fn begin() -> Run {
+        let given = arguments(USAGE);
+        let seed = number(&given, 1, USAGE).unwrap_or(USUAL_SEED);
+        println!("seed {seed}");
+        Run {
+            desk: Asking::of(&given[0]).unwrap_or_else(|fault| finish(&[fault])),
+            dice: Dice::new(seed),
+            families: Counts::default(),
+            crafted: Counts::default(),
+            of_sheets: Counts::default(),
+            broken: Counts::default(),
+            altered: Counts::default(),
+            sessions: Counts::default(),
+            lent: Counts::default(),
+            blocks: Counts::default(),
+            sheets: Counts::default(),
+            hidden: Counts::default(),
+            hidden_of_sheets: Counts::default(),
+        }
+    }
+
+    /// Each part of the run has dice of its own.
+    fn part(&mut self, work: impl Fn(&mut Run, &mut Dice)) {
+        let mut dice = Dice::new(self.dice.roll());
+        work(self, &mut dice);
+    }
+
+    fn open_sessions(&mut self, dice: &mut Dice) {
+        for count in 0..3 * NUMBERS {
+            let numbers: Vec<i64> = (0..count).map(|_| dice.roll() as i64).collect();
+            self.families.see("sessions opened");
+            self.desk.ask(desk::open(&numbers));
+        }
+    }
+
+    fn deliver_to_crafted(&mut self, dice: &mut Dice) {
+        for family in crafted::FAMILIES {
+            let mut ask_dice = Dice::new(dice.roll());
+            (family.make)(dice, &mut |made| {
+                self.families.see(family.name);
+                self.ask_crafted(&mut ask_dice, made);
+            });
+        }
+    }
+
+    fn ask_crafted(&mut self, dice: &mut Dice, made: Crafted) {
+        let delivery = made.delivery;
+        let left = delivery.leaves();
+        self.crafted.see(name_of(left.told.result));
+        for name in lent_names(&delivery, left.told.result) {
+            self.lent.see(name);
+        }
+        let broken = clauses::broken(&delivery.numbers);
+        if let [clause] = broken[..] {
+            self.broken.see(clause);
+        }
+        if let Some(place) = made.altered {
+            self.altered.see(altered_name(place, broken.is_empty()));
+        }
+        self.desk.ask(delivery.call(&left));
+        self.ask_about(dice, &delivery.numbers);
+        if left.told.result == kept::DONE {
+            self.ask_about(dice, &left.numbers);
+        }
+    }
+
+    /// Sound, complete, and a report into too little room, just enough, or more.
+    fn ask_about(&mut self, dice: &mut Dice, numbers: &[i64]) {
+        let kept = kept::sound(numbers);
+        let report = kept.as_ref().and_then(|kept| kept.report());
+        let length = match &report {
+            Some(text) => (text.len() as i64 + *dice.pick(&[-1, 0, 0, 1, 40])) as usize,
+            None => *dice.pick(&[0, 1, 200]),
+        };
+        self.sessions.see(match (&kept, &report) {
+            (None, _) => "unsound",
+            (Some(_), None) => "sound, not complete",
+            (_, Some(text)) if text.len() > length => "complete, too little room",
+            _ => "complete and reported",
+        });
+        self.desk.ask(desk::session(numbers, length));
+    }
+
+    fn send_sheets(&mut self, dice: &mut Dice) {
+        let mut ask_dice = Dice::new(dice.roll());
+        presses::all(dice, &mut |delivery: Delivery, left: Left| {
+            self.families.see("whole sheets over a poor line");
+            self.of_sheets.see(name_of(left.told.result));
+            self.desk.ask(delivery.call(&left));
+            self.ask_about(&mut ask_dice, &left.numbers);
+        });
+    }
+
+    /// Records A of every size, and damaged ones, at times of another length.
+    fn size_headers(&mut self, dice: &mut Dice) {
+        for turn in 0..6_000 {
+            let mut side = || {
+                let any = dice.between(1, 2048);
+                *dice.pick(&[1, 2, 2047, 2048, any])
+            };
+            let (columns, rows) = (side(), side());
+            let mut block = head::head(dice, columns, rows).block(dice);
+            if turn % 2 == 1 {
+                let record = Record::Header;
+                block = damaged(
+                    dice,
+                    &Sent {
+                        record,
+                        bytes: block,
+                    },
+                );
+            }
+            if turn % 16 == 1 {
+                block.resize(*dice.pick(&[0, 1, 1023, 1025, 2048]), b' ');
+            }
+            self.families.see(match record_a::check(&block) {
+                Ok(_) => "columns and rows",
+                Err(_) => "columns and rows, refused",
+            });
+            self.desk.ask(desk::columns(&block));
+        }
+    }
+
+    fn write(&mut self, dice: &mut Dice) {
+        writings::blocks(dice, &mut |asked| self.ask_writer(asked));
+        writings::sheets(dice, &mut |asked| self.ask_writer(asked));
+        writings::of_every_shape(dice, &mut |asked| self.ask_writer(asked));
+    }
+
+    fn ask_writer(&mut self, asked: Asked) {
+        let (told, hidden) = match asked.whole {
+            false => (&mut self.blocks, &mut self.hidden),
+            true => (&mut self.sheets, &mut self.hidden_of_sheets),
+        };
+        told.see(writings::name_of(asked.told));
+        for pair in asked.hidden() {
+            hidden.see(pair);
+        }
+        self.desk.ask(asked.call);
+    }
+
+    fn print_tables(&self) {
+        self.families.print("calls", &families());
+        println!("deliveries to crafted sessions {}", self.crafted.all());
+        self.crafted.print("  answers", &answers());
+        self.broken
+            .print("  unsound by this clause alone", &broken_alone());
+        self.altered
+            .print("  this number altered alone", &altered_names());
+        self.lent.print("  lent", &all_lent_names());
+        self.sessions.print("sound, complete, report", &SESSIONS);
+        self.of_sheets
+            .print("whole sheets over a poor line", &answers_of_sheets());
+        self.blocks.print("dem_write_block", &told_of_a_block());
+        self.hidden
+            .print("  which refusal comes first", &writings::pairs_of_a_block());
+        self.sheets.print("dem_write_sheet", &told_of_a_sheet());
+        self.hidden_of_sheets
+            .print("  which refusal comes first", &writings::pairs_of_a_sheet());
+    }
+
+    fn shortcomings(&self) -> Vec<String> {
+        let mut found = Vec::new();
+        for (what, counts, fewest) in [
+            (
+                "deliveries to crafted sessions",
+                &self.crafted,
+                FEWEST_CRAFTED,
+            ),
+            ("deliveries of sheets", &self.of_sheets, FEWEST_OF_SHEETS),
+            ("blocks of the writer", &self.blocks, FEWEST_BLOCKS),
+            ("sheets of the writer", &self.sheets, FEWEST_SHEETS),
+        ] {
+            if counts.all() < fewest {
+                found.push(format!("fewer than {fewest} {what}"));
+            }
+        }
+        found.extend(self.families.never_seen(&families()));
+        found.extend(self.crafted.never_seen(&answers()));
+        found.extend(self.broken.never_seen(&broken_alone()));
+        found.extend(self.altered.never_seen(&altered_names()));
+        found.extend(self.sessions.never_seen(&SESSIONS));
+        found.extend(self.lent.never_seen(&all_lent_names()));
+        found.extend(self.of_sheets.never_seen(&answers_of_sheets()));
+        found.extend(self.blocks.never_seen(&told_of_a_block()));
+        found.extend(self.sheets.never_seen(&told_of_a_sheet()));
+        found.extend(self.hidden.never_seen(&writings::pairs_of_a_block()));
+        found.extend(
+            self.hidden_of_sheets
+                .never_seen(&writings::pairs_of_a_sheet()),
+        );
+        found
+    }
+}
+
+/// What a delivery shows about the slices lent to it.
+fn lent_names(delivery: &Delivery, result: u32) -> Vec<String> {
+    let word = match result {
+        kept::DONE => "taken",
+        HELD => "held",
+        _ => "refused",
+    };
+    let mut names = vec![format!("answer of {}, {word}", delivery.room)];
+    if delivery.numbers.len() > NUMBERS {
+        names.push(format!("numbers past the session, {word}"));
+    }
+    let size = |header: &Header| header.cells();
+    let need = match (kept::sound(&delivery.numbers), delivery.number) {
+        (Some(_), 0) => record_a::check(&delivery.block).as_ref().map_or(0, size),
+        (Some(kept), _) if kept.taken > 0 => size(&kept.header),
+        _ => return names,
+    };
+    let judged = result == kept::DONE || result == GRID_TOO_SHORT;
+    let words = match delivery.grid.len() {
+        0 => "no grid",
+        length if length + 1 == need => "grid a cell short",
+        length if length == need => "grid just enough",
+        length if length > need => "grid to spare",
+        _ => "grid far too short",
+    };
+    if judged {
+        names.push(format!("{words}, {word}"));
+    }
+    names
+}
+
+fn all_lent_names() -> Vec<String> {
+    let mut names = Vec::new();
+    for word in ["taken", "held", "refused"] {
+        names.extend((0..=4).map(|room| format!("answer of {room}, {word}")));
+        names.push(format!("numbers past the session, {word}"));
+    }
+    let grids = ["no grid, refused", "grid a cell short, refused"];
+    names.extend(grids.map(String::from));
+    let grids = ["grid just enough, taken", "grid to spare, taken"];
+    names.extend(grids.map(String::from));
+    names
+}
+
+const SESSIONS: [&str; 4] = [
+    "unsound",
+    "sound, not complete",
+    "complete, too little room",
+    "complete and reported",
+];
+
+fn families() -> Vec<&'static str> {
+    let mut names = vec!["sessions opened"];
+    names.extend(crafted::FAMILIES.iter().map(|family| family.name));
+    names.extend(["whole sheets over a poor line", "columns and rows"]);
+    names.push("columns and rows, refused");
+    names
+}
+
+fn name_of(result: u32) -> String {
+    match result {
+        kept::DONE => "taken".to_string(),
+        HELD => "held".to_string(),
+        _ => format!("refused {result}"),
+    }
+}
+
+fn answers() -> Vec<String> {
+    let kinds = (1..=12).map(name_of);
+    [kept::DONE, HELD]
+        .map(name_of)
+        .into_iter()
+        .chain(kinds)
+        .collect()
+}
+
+/// The desk's own sessions are sound, and its grids long enough.
+fn answers_of_sheets() -> Vec<String> {
+    let mut names = answers();
+    names.retain(|name| name != "refused 2" && name != "refused 12");
+    names
+}
+
+fn broken_alone() -> Vec<&'static str> {
+    let clauses = CLAUSES.iter().map(|&(name, _)| name);
+    let all = [TOO_FEW, NEGATIVE].into_iter().chain(clauses);
+    all.filter(|&name| name != NEVER_ALONE).collect()
+}
+
+fn altered_name(place: usize, sound: bool) -> String {
+    let word = if sound { "sound" } else { "unsound" };
+    format!("{}, {word}", NAMES[place])
+}
+
+fn altered_names() -> Vec<String> {
+    let both = |place: usize| [true, false].map(|sound| altered_name(place, sound));
+    (0..NUMBERS).flat_map(both).collect()
+}
+
+fn told_of_a_block() -> Vec<String> {
+    let mut names = told_of_a_sheet();
+    names.push(writings::name_of((14, 0)));
+    names
+}
+
+fn told_of_a_sheet() -> Vec<String> {
+    let told = [(0, 0), (1, 0), (1, 1), (5, 0), (6, 0), (7, 0), (8, 0)];
+    let more = [(9, 0), (10, 0), (12, 0), (13, 0)];
+    told.into_iter()
+        .chain(more)
+        .map(writings::name_of)
+        .collect()
+}
+
+fn main() {
+    let mut run = Run::begin();
+    run.part(Run::open_sessions);
+    run.part(Run::send_sheets);
+    run.part(Run::deliver_to_crafted);
+    run.part(Run::size_headers);
+    run.part(Run::write);
+    run.desk.hold_against_answers();
+    run.print_tables();
+    let shortcomings = run.shortcomings();
+    run.desk.end(shortcomings)
+}
