@@ -56,19 +56,29 @@ static int complain(int status, const char *what, const char *name)
 
 /* ---- The state as bytes ---- */
 
-static uint8_t *put_number(uint8_t *at, uint64_t value, int size)
+/* Four bytes and eight, each byte named: compilers make one step of it, and the largest sheet is written some four hundred times. */
+static uint8_t *put_four(uint8_t *at, uint32_t value)
 {
-    for (int i = size - 1; i >= 0; i--, value >>= 8)
-        at[i] = (uint8_t)value;
-    return at + size;
+    at[0] = (uint8_t)(value >> 24);
+    at[1] = (uint8_t)(value >> 16);
+    at[2] = (uint8_t)(value >> 8);
+    at[3] = (uint8_t)value;
+    return at + 4;
 }
 
-static uint64_t number_at(const uint8_t *at, int size)
+static uint32_t four_at(const uint8_t *at)
 {
-    uint64_t value = 0;
-    for (int i = 0; i < size; i++)
-        value = value << 8 | at[i];
-    return value;
+    return (uint32_t)at[0] << 24 | (uint32_t)at[1] << 16 | (uint32_t)at[2] << 8 | at[3];
+}
+
+static uint8_t *put_eight(uint8_t *at, uint64_t value)
+{
+    return put_four(put_four(at, (uint32_t)(value >> 32)), (uint32_t)value);
+}
+
+static uint64_t eight_at(const uint8_t *at)
+{
+    return (uint64_t)four_at(at) << 32 | four_at(at + 4);
 }
 
 /* Four bytes at a time: their sum, and the sum of the sums so far, which tells where each stood. A cell that rotted on the disk
@@ -77,7 +87,7 @@ static void sums_of(const uint8_t *bytes, size_t length, uint64_t sums[2])
 {
     sums[0] = sums[1] = 0;
     for (size_t i = 0; i < length; i += 4) {
-        sums[0] += number_at(bytes + i, 4);
+        sums[0] += four_at(bytes + i);
         sums[1] += sums[0];
     }
 }
@@ -91,28 +101,27 @@ static void put_state(uint8_t *out, const struct desk *desk)
 {
     uint64_t sums[2];
     memcpy(out, MARK, MARK_SIZE);
-    uint8_t *at = put_number(out + MARK_SIZE, DEM_SESSION, COUNT_SIZE);
+    uint8_t *at = put_four(out + MARK_SIZE, DEM_SESSION);
     for (size_t i = 0; i < DEM_SESSION; i++)
-        at = put_number(at, (uint64_t)desk->session[i], NUMBER_SIZE);
-    at = put_number(at, desk->cells, COUNT_SIZE);
+        at = put_eight(at, (uint64_t)desk->session[i]);
+    at = put_four(at, (uint32_t)desk->cells);
     for (size_t i = 0; i < desk->cells; i++)
-        at = put_number(at, (uint32_t)desk->grid[i], CELL_SIZE);
+        at = put_four(at, (uint32_t)desk->grid[i]);
     sums_of(out, (size_t)(at - out), sums);
-    at = put_number(at, sums[0], NUMBER_SIZE);
-    put_number(at, sums[1], NUMBER_SIZE);
+    put_eight(put_eight(at, sums[0]), sums[1]);
 }
 
 /* Whether these are a whole state's bytes, as far as bytes can tell. */
 static int is_whole(const uint8_t *bytes, size_t size)
 {
     uint64_t sums[2];
-    if (size < state_size(0) || memcmp(bytes, MARK, MARK_SIZE) != 0 || number_at(bytes + MARK_SIZE, COUNT_SIZE) != DEM_SESSION)
+    if (size < state_size(0) || memcmp(bytes, MARK, MARK_SIZE) != 0 || four_at(bytes + MARK_SIZE) != DEM_SESSION)
         return 0;
-    uint64_t cells = number_at(bytes + CELLS_AT - COUNT_SIZE, COUNT_SIZE);
-    if (cells > MOST_CELLS || size != state_size((size_t)cells))
+    uint32_t cells = four_at(bytes + CELLS_AT - COUNT_SIZE);
+    if (cells > MOST_CELLS || size != state_size(cells))
         return 0;
     sums_of(bytes, size - SUMS_SIZE, sums);
-    return number_at(bytes + size - SUMS_SIZE, NUMBER_SIZE) == sums[0] && number_at(bytes + size - NUMBER_SIZE, NUMBER_SIZE) == sums[1];
+    return eight_at(bytes + size - SUMS_SIZE) == sums[0] && eight_at(bytes + size - NUMBER_SIZE) == sums[1];
 }
 
 static int lend_grid(struct desk *desk, size_t cells)
@@ -160,12 +169,12 @@ static int take_state(struct desk *desk, const uint8_t *bytes, size_t size, cons
     static const char other[] = "this is no whole state of the Load button";
     if (!is_whole(bytes, size))
         return complain(NOT_OURS, other, name);
-    if (!lend_grid(desk, (size_t)number_at(bytes + CELLS_AT - COUNT_SIZE, COUNT_SIZE)))
+    if (!lend_grid(desk, four_at(bytes + CELLS_AT - COUNT_SIZE)))
         return complain(NOT_WRITTEN, "no memory for its grid", name);
     for (size_t i = 0; i < DEM_SESSION; i++)
-        desk->session[i] = (int64_t)number_at(bytes + MARK_SIZE + COUNT_SIZE + i * NUMBER_SIZE, NUMBER_SIZE);
+        desk->session[i] = (int64_t)eight_at(bytes + MARK_SIZE + COUNT_SIZE + i * NUMBER_SIZE);
     for (size_t i = 0; i < desk->cells; i++)
-        desk->grid[i] = (int32_t)(uint32_t)number_at(bytes + CELLS_AT + i * CELL_SIZE, CELL_SIZE);
+        desk->grid[i] = (int32_t)four_at(bytes + CELLS_AT + i * CELL_SIZE);
     if (!dem_is_sound(desk->session, DEM_SESSION))
         return complain(NOT_OURS, "its session is unsound", name);
     if (!is_its_grid(desk))
@@ -352,7 +361,7 @@ static int next_frame(uint32_t *number, uint8_t *block, size_t *length)
     uint8_t head[4];
     if (fread(head, 1, sizeof head, stdin) != sizeof head)
         return 0;
-    *number = (uint32_t)number_at(head, sizeof head);
+    *number = four_at(head);
     *length = fread(block, 1, BLOCK, stdin);
     return 1;
 }
