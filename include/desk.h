@@ -1,6 +1,13 @@
-/* The calls of the terrain sheet library. Each takes bytes as a pointer and a length, keeps nothing and allocates nothing.
- * The bytes need no end mark; a length of 0 is answered like any other, and the pointer must still not be NULL.
- * Types and names are those of crates/desk/src/lib.rt, where each call's promise stands. */
+/* The calls of the terrain sheet library. Types and names are those of crates/desk/src, where each call's promise stands; .ci/header
+ * holds this file against it.
+ *
+ * What a caller lends is a pointer and how many bytes, numbers or cells stand there. A call keeps nothing and allocates nothing, and any
+ * contents are answered. What no call can test for itself must hold of the pointers:
+ *   - all of that length can be read, and written where the pointer is not const;
+ *   - a pointer is never NULL, also with length 0;
+ *   - it is aligned as its type asks;
+ *   - slices lent to one call do not overlap, and nothing else writes to them until it returns.
+ * Where a refusal is answered, nothing that was lent is changed but the numbers of the answer. */
 #ifndef DESK_H
 #define DESK_H
 
@@ -10,6 +17,8 @@
 #ifdef __cplusplus
 extern "C" {
 #endif
+
+/* ---- Fields and record A ---- */
 
 /* An integer field of 1 to 6 bytes. Kind: 0 read, 1 wrong length, 6 wrong form. Value: 0 where refused. */
 uint32_t dem_integer_kind(const uint8_t *field, size_t length);
@@ -31,23 +40,73 @@ uint32_t dem_origin(const uint8_t *block, size_t length);
 /* How many bytes of a record A, from its first, are the sheet's name; 0 where it is blank, or for another length. */
 size_t dem_name_length(const uint8_t *block, size_t length);
 
-/* How many numbers a session has, and the result that says a block is held. */
-#define DEM_SESSION 37
-#define DEM_HELD 255
-
-uint32_t dem_open(int64_t *session, size_t numbers);
-uint32_t dem_deliver(int64_t *session, size_t numbers, uint32_t number, const uint8_t *block, size_t length, int32_t *grid,
-                     size_t cells, uint64_t *answer, size_t room);
-uint32_t dem_is_sound(const int64_t *session, size_t numbers);
-uint32_t dem_is_complete(const int64_t *session, size_t numbers);
+/* Columns and rows of a record A, each 1 to 2048; 0 where it is refused. Columns x rows cells are to be lent for its sheet. */
 uint64_t dem_columns(const uint8_t *block, size_t length);
 uint64_t dem_rows(const uint8_t *block, size_t length);
-uint64_t dem_block_count(const uint8_t *template_block, size_t length, const int32_t *grid, size_t cells);
-uint32_t dem_write_block(const uint8_t *template_block, size_t length, const int32_t *grid, size_t cells, uint32_t number,
-                         uint8_t *block, size_t block_length, uint64_t *answer, size_t room);
-uint32_t dem_write_sheet(const uint8_t *template_block, size_t length, const int32_t *grid, size_t cells, uint8_t *out,
-                         size_t out_length, uint64_t *answer, size_t room);
+
+/* ---- Taking a sheet, block by block ----
+ *
+ * A session is a slice of at least DEM_SESSION numbers; those past them are never looked at or changed. It may be kept anywhere between
+ * two calls, in a file for example: hand session and grid back as the last call left them. In order:
+ *    0  level, system, zone, ground unit, vertical unit
+ *    5  corners SW, NW, NE, SE, each x then y     (billionths)
+ *   13  stated least and greatest                 (billionths)
+ *   15  accuracy
+ *   16  x, y, z spacing                           (billionths)
+ *   19  profiles n
+ *   20  blocks taken, profiles closed, posts read, cells filled
+ *   24  running least and greatest                (hundredths)
+ *   26  first profile's column; 1 once a record C is taken
+ *   28  the open profile: posts, row, datum (hundredths), stated least and greatest (billionths), posts read, cells filled, running least
+ *       and greatest (hundredths)
+ * Corners, extremes and datum may be negative; a negative number elsewhere, or too few numbers, is an unsound session (2).
+ *
+ * The grid: cell = column x rows + row, from the south-western one; hundredths of the vertical unit. */
+#define DEM_SESSION 37         /* numbers of a session */
+#define DEM_TAKEN 20           /* where the blocks taken stand: the number of the block that is due */
+#define DEM_VOID (-2147483647 - 1) /* a void cell */
+
+/* Results. 0: taken, or done. Else a kind:
+ *    1  wrong length                         8  number too fine, or of too many digits
+ *    2  unsound session                      9  code not allowed here
+ *    3  block's number above the next one   10  numbers that do not go together
+ *    4  sheet complete                      11  stated extreme not that of the posts
+ *    5  no text, or no blank                12  grid, or session, too short
+ *    6  wrong form of a number              13  (writer) a cell that no post can say
+ *    7  number out of range                 14  (writer) no such block
+ * What stands beside a kind is put into the answer, as many numbers of it as there is room for; the room past them stays as it is.
+ * Taken, held and done put zeros there. */
+#define DEM_HELD 255 /* the block was taken before: nothing was read or changed */
+
+/* A fresh session; 12, and nothing changed, where there are fewer than DEM_SESSION numbers. */
+uint32_t dem_open(int64_t *session, size_t numbers);
+
+/* One delivery: 0 taken, DEM_HELD, or a kind from 1 to 12. Answer: block, byte. */
+uint32_t dem_deliver(int64_t *session, size_t numbers, uint32_t number, const uint8_t *block, size_t length, int32_t *grid, size_t cells,
+                     uint64_t *answer, size_t room);
+
+/* 1 or 0. An unsound session and a fresh one are not complete. */
+uint32_t dem_is_sound(const int64_t *session, size_t numbers);
+uint32_t dem_is_complete(const int64_t *session, size_t numbers);
+
+/* The lister's four lines of a complete session, and how many bytes they are; 0, and nothing written, where it is not complete or they
+ * do not fit. DEM_REPORT bytes are always enough. */
+#define DEM_REPORT 256
 size_t dem_report(const int64_t *session, size_t numbers, uint8_t *out, size_t length);
+
+/* ---- Sending a sheet: a template record A, and the grid ---- */
+
+/* How many blocks the sheet has; 0 where template or grid is refused. */
+uint64_t dem_block_count(const uint8_t *record_a, size_t record_a_length, const int32_t *grid, size_t cells);
+
+/* Writes block `number` into a block of 1,024 bytes. Answer, one number: for kind 1, 0 the lent block and 1 the template; for 5 to 10 the
+ * template's byte; 0 for 12; the cell for 13; the count of blocks for 14. */
+uint32_t dem_write_block(const uint8_t *record_a, size_t record_a_length, const int32_t *grid, size_t cells, uint32_t number,
+                         uint8_t *block, size_t length, uint64_t *answer, size_t room);
+
+/* Writes all of them, into exactly count x 1,024 bytes: another length is 1 with 0, after all other refusals. Else as above. */
+uint32_t dem_write_sheet(const uint8_t *record_a, size_t record_a_length, const int32_t *grid, size_t cells, uint8_t *out, size_t length,
+                         uint64_t *answer, size_t room);
 
 #ifdef __cplusplus
 }

@@ -92,6 +92,12 @@ pub struct Mismatch {
     input: Vec<u8>,
 }
 
+impl Mismatch {
+    pub fn of(words: String, input: Vec<u8>) -> Mismatch {
+        Mismatch { words, input }
+    }
+}
+
 /// Runs the program on input `number`; `what` is such an input in a word. `difference` says
 /// what is wrong with an output; None if nothing is.
 pub fn demand_same(

@@ -3,6 +3,7 @@
 
 pub mod asking;
 pub mod block;
+pub mod button;
 pub mod comparing;
 pub mod crafted;
 pub mod desk;
