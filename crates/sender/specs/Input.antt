@@ -3,7 +3,7 @@ use mathlib.Core.List.{List, [], _∷_}
 use Prim.Native.Nat.{ℕ, _*_, _%_, _≤_}
 use lib.IntN.{ℤ}
 use mathlib.Core.Bool.{Bool, cond}
-use lib.Dec.{eqb, leb}
+use lib.Dec.{eqb, leb, ltb}
 use lib.ListN.{length}
 use mathlib.Core.Path.{_≡_}
 use Rattle.laws.specs.Sign.{_and_}
@@ -30,3 +30,7 @@ countOf text = cond (goodInput text) (Count (length (cellsFrom text))) Bad
 abbrev pub Fitting : List ℕ → Cells → Type 0
 Fitting text (Count n) = (length text ≡ 4 * n) × (n ≤ 15000)
 Fitting text Bad = Unit {0}
+
+-- the bytes of so many blocks, as far as a sheet of 15,000 cells can have them
+abbrev pub bytesOf : ℕ → ℕ
+bytesOf count = cond (ltb 2049 count) 0 (1024 * count)

@@ -8,41 +8,50 @@ use written::Sent;
 ghost use mathlib.Core.Path.{_≡_};
 ghost use Prim.Native.Nat.{_*_, _≤_};
 ghost use lib.ListN.{length};
-ghost use Rattle.sender.specs.Input.{cellsFrom};
+ghost use Rattle.written.specs.Sending.{sheetAfter};
+ghost use Rattle.sender.specs.Input.{cellsFrom, bytesOf};
 
-// One block of the sheet, written out; false where the writer refuses it.
-fn send_block(template: &[u8], grid: &[i32], number: u64) -> bool {
-    let mut block = [0u8; 1024];
-    let sent = send::write_block(template, grid, number, &mut block);
+// The most bytes of a sheet of 15,000 cells: block 0 and one for each of 2,048 columns. Where a column needs more than one, it has more than
+// 146 rows, and the columns are so few that the blocks are fewer in all.
+const MOST: usize = 2098176;
+
+// The bytes of so many blocks; more than there can be get none, and the writer then refuses the buffer.
+fn bytes_of(count: u64) -> usize
+    ensures { λ r. ⌜ r ≡ bytesOf count ⌝ }
+{
+    if count > 2049 {
+        return 0;
+    }
+    1024 * count as usize
+}
+
+// The sheet is judged whole before a byte of it is written out.
+fn send_into(template: &[u8], grid: &[i32], out: &mut [u8])
+    ensures { λ _. ⌜ now (out .exit) ≡ sheetAfter (now (template .entry)) (now (grid .entry)) (now (out .entry)) ⌝ }
+{
+    let sent = send::write_sheet(template, grid, out);
     match sent {
-        Sent::Written => {
-            output::write_bytes(&block);
-            true
-        }
-        Sent::Refused(_, _) => false,
-    }
-}
-
-// The blocks of a sheet whose block 0 the writer takes. Every number below the count is then written, so the loop's
-// second test never ends it; the writer's own promise says that, and nothing is written should it fail.
-fn send_blocks(template: &[u8], grid: &[i32]) {
-    let count = send::block_count(template, grid);
-    let mut number = 0;
-    let mut written = true;
-    while number < count && written {
-        written = send_block(template, grid, number);
-        number += 1;
-    }
-}
-
-// A sheet is judged whole with its block 0, before a byte of it is written.
-fn send_sheet(template: &[u8], grid: &[i32]) {
-    let mut block = [0u8; 1024];
-    let first = send::write_block(template, grid, 0, &mut block);
-    match first {
-        Sent::Written => send_blocks(template, grid),
+        Sent::Written => output::write_bytes(out),
         Sent::Refused(kind, number) => output::write_refusal(kind, number),
     }
+}
+
+// As much of the room as the sheet has bytes, which is never more than all of it.
+fn send_from(template: &[u8], grid: &[i32], room: &mut [u8]) {
+    let bytes = bytes_of(send::block_count(template, grid));
+    if bytes <= room.len() {
+        send_into(template, grid, &mut room[..bytes]);
+    }
+}
+
+// Lent as an array first: the prover takes so long an array as a slice only behind a reference.
+fn send_room(template: &[u8], grid: &[i32], room: &mut [u8; 2098176]) {
+    send_from(template, grid, room);
+}
+
+fn send_sheet(template: &[u8], grid: &[i32]) {
+    let mut room = [0u8; MOST];
+    send_room(template, grid, &mut room);
 }
 
 fn send_cells(template: &[u8], text: &[u8], grid: &mut [i32])
