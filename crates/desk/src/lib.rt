@@ -9,7 +9,7 @@ ghost use Rattle.session.specs.Session.{fresh};
 ghost use Rattle.delivery.specs.Deliver.{answerKind, answerPlace};
 ghost use Rattle.lines.specs.Lines.{Given};
 ghost use Rattle.slip.specs.Slip.{handed};
-ghost use Rattle.ledger.specs.Ledger.{openKind, opened, deliveredTo, gridLeft, numbersLeft, soundSaid, completeSaid, reportSaid};
+ghost use Rattle.ledger.specs.Ledger.{openKind, openedWith, deliveredTo, gridLeft, numbersLeft, soundSaid, completeSaid, reportSaid};
 ghost use Rattle.written.specs.Sending.{blockObjection, blockAfter, countOf, sentBy, sentKind, sheetSentObjection, sheetAfter};
 ghost use Rattle.desk.specs.Calls.{oneIf, columnsChecked, rowsChecked, sentBeside};
 use sheet::Checked;
@@ -93,7 +93,7 @@ pub extern "C" fn dem_name_length(block: &[u8]) -> usize
 // A fresh session: 0, or 12 and nothing changed where there are too few numbers.
 #[no_mangle]
 pub extern "C" fn dem_open(session: &mut [i64]) -> u32
-    ensures { λ r. ⌜ (r ≡ openKind (now (session .entry))) × (now (session .exit) ≡ opened fresh (now (session .entry))) ⌝ }
+    ensures { λ r. ⌜ (r ≡ openKind (now (session .entry))) × (now (session .exit) ≡ openedWith fresh (now (session .entry))) ⌝ }
 {
     ledger::open(session)
 }

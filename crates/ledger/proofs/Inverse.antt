@@ -1,14 +1,14 @@
 -- The numbers of a session say that session, and numbers that say a sound one are its numbers.
-use mathlib.Core.Bool.{Bool, true, false}
+use mathlib.Core.Bool.{true, false}
 use mathlib.Core.List.{List, [], _∷_, _++_, map}
-use mathlib.Core.Path.{_≡_, refl, sym, _∙_, ap, subst}
+use mathlib.Core.Path.{_≡_, refl, sym, _∙_, ap}
 use Prim.Native.Nat.{ℕ, zero, suc, _+_, _≤_}
 use native.Mathlib.Nat.{add-zero}
 use native.Mathlib.Omega.{arith}
 use borrow.Author.Tests.{leb-true, le-ltb}
 use lib.Dec.{leb}
 use lib.IntN.{ℤ, pos, negsuc}
-use lib.ListN.{length, drop, getD, length-append}
+use lib.ListN.{length, drop, length-append}
 use lib.Seq.{drop-cons}
 use lib.Signed.{ltZ}
 use Rattle.laws.specs.Lists.{from}
@@ -16,7 +16,8 @@ use Rattle.laws.specs.Sign.{notNegative, _and_}
 use Rattle.laws.proofs.Tests.{by-test, clash, split, and-both}
 use Rattle.session.specs.declared.Session.{Session}
 use Rattle.session.specs.Session.{sound}
-use Rattle.ledger.specs.Ledger.{numbersOf, numberAt, noneNegative, run, isSession, sessionKept, sessionSaid, soundSaid, kept}
+use Rattle.ledger.specs.Numbers.{numbersOf, kept}
+use Rattle.ledger.specs.Ledger.{keptAt, noneNegative, run, isSession, sessionKept, sessionSaid, soundSaid}
 use Rattle.ledger.proofs.Keeping.{said-kept, said-none, none-unsound, enough-of}
 
 -- ---- from a session to its numbers and back
@@ -46,12 +47,12 @@ said-back s rest = said-kept (numbersOf s ++ rest) (numbers-are s rest)
 -- ---- from numbers to their session and back
 
 -- so many numbers from one on, one by one
-one-by-one : (l : List ℤ) (a k : ℕ) → a + k ≤ length l → map (numberAt l) (from a k) ++ drop (a + k) l ≡ drop a l
+one-by-one : (l : List ℤ) (a k : ℕ) → a + k ≤ length l → map (keptAt l) (from a k) ++ drop (a + k) l ≡ drop a l
 one-by-one l a zero le = ap (λ (n : ℕ). drop n l) (add-zero a)
 one-by-one l a (suc k) le =
     let e : a + suc k ≡ suc a + k = omega arith in
-    ap (λ (rest : List ℤ). numberAt l a ∷ rest)
-    (ap (λ (n : ℕ). map (numberAt l) (from (suc a) k) ++ drop n l) e ∙ one-by-one l (suc a) k (omega (arith, le, e)))
+    ap (λ (rest : List ℤ). keptAt l a ∷ rest)
+    (ap (λ (n : ℕ). map (keptAt l) (from (suc a) k) ++ drop n l) e ∙ one-by-one l (suc a) k (omega (arith, le, e)))
     ∙ sym (drop-cons l a (pos 0) (omega (arith, le)))
 
 count-back : (z : ℤ) → ltZ z (pos 0) ≡ false → pos (notNegative z) ≡ z
@@ -72,7 +73,7 @@ module _ (numbers : List ℤ) (t : isSession numbers ≡ true) where
 
   -- number by number
   abbrev n : ℕ → ℤ
-  n = numberAt numbers
+  n = keptAt numbers
 
   abbrev spread : List ℤ
   spread = map n (from 0 37) ++ drop 37 numbers

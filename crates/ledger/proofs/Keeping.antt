@@ -11,12 +11,10 @@ use lib.ListN.{length, drop}
 use lib.Seq.{sets, sets-eq}
 use Rattle.laws.specs.Sign.{_and_}
 use Rattle.laws.proofs.Tests.{by-test, clash, and-first}
-use Rattle.heading.specs.Heading.{headerObeys}
 use Rattle.heading.proofs.HeadingFacts.{header-facts}
 use Rattle.heading.proofs.Modest.{modest}
-use Rattle.session.specs.declared.Profile.{Profile}
 use Rattle.session.specs.declared.Session.{Session}
-use Rattle.session.specs.Session.{sound, busy, fresh, begunObeys}
+use Rattle.session.specs.Session.{sound, busy, begunObeys}
 use Rattle.session.proofs.Facts.{begun-facts}
 use Rattle.session.proofs.Sound.{fresh-or-begun, taken-bound, posts-bound}
 use Rattle.delivery.specs.declared.Answer.{Answer}
@@ -24,8 +22,9 @@ use Rattle.delivery.specs.declared.Answer.the-variants.{Taken, Held, Refused}
 use Rattle.delivery.specs.declared.Delivered.{Delivered}
 use Rattle.delivery.specs.Deliver.{Lent, deliverOf}
 use Rattle.delivery.proofs.SoundOut.{Idle, sound-out, idle-out, unsound-kept}
-use Rattle.ledger.specs.Ledger.{numbersOf, noneNegative, run, isSession, sessionKept, sessionSaid, noSession}
-use Rattle.ledger.specs.Steps.{signed, headerRow, countRow, profileRow, rowOf, Keepable}
+use Rattle.ledger.specs.Numbers.{numbersOf}
+use Rattle.ledger.specs.Ledger.{noneNegative, run, isSession, sessionKept, sessionSaid, noSession}
+use Rattle.ledger.specs.Steps.{withSign, headerRow, countRow, profileRow, rowOf, Keepable}
 
 -- three rows, one behind the other, are one
 pub rows-put : (s : Session) (numbers : List ℤ) → 37 ≤ length numbers
@@ -34,7 +33,7 @@ rows-put s numbers le = sets-eq (rowOf s) numbers 0 le
 
 -- ---- counts that fit
 
-small : (n : ℕ) → n < 2 ^ 63 → signed n ≡ pos n
+small : (n : ℕ) → n < 2 ^ 63 → withSign n ≡ pos n
 small n lt = let e : min n 9223372036854775807 ≡ n = omega (arith, lt) in ap pos e
 
 -- the open profile's posts, or none

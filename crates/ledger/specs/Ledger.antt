@@ -1,8 +1,8 @@
--- A session as a row of numbers, which a caller keeps between two deliveries: the header's twenty, the session's eight, the open
--- profile's nine, in the order in which the session names them.
-use Prim.Native.Nat.{ℕ, _^_}
+-- The session that numbers say, and what is asked of it. Numbers has the other way round; that the two are inverse is said-back and
+-- numbers-back (proof Inverse).
+use Prim.Native.Nat.{ℕ}
 use mathlib.Core.Bool.{Bool, cond, false, true}
-use mathlib.Core.List.{List, [], _∷_, _++_}
+use mathlib.Core.List.{List, [], _∷_}
 use lib.Dec.{leb}
 use lib.IntN.{ℤ, pos}
 use lib.ListN.{length, take, drop, getD}
@@ -19,84 +19,66 @@ use Rattle.delivery.specs.declared.Answer.the-variants.{Taken, Held, Refused}
 use Rattle.delivery.specs.declared.Delivered.{Delivered}
 use Rattle.delivery.specs.Deliver.{lend, deliverOf, lentAfter}
 use Rattle.lines.specs.Lines.{reportText}
-
--- ---- the numbers of a session
-
-abbrev pub headerNumbers : Header → List ℤ
-headerNumbers h =
-    pos (h .level) ∷ pos (h .system) ∷ pos (h .zone) ∷ pos (h .ground) ∷ pos (h .vertical)
-    ∷ h .sw .x ∷ h .sw .y ∷ h .nw .x ∷ h .nw .y ∷ h .ne .x ∷ h .ne .y ∷ h .se .x ∷ h .se .y
-    ∷ h .least ∷ h .greatest ∷ pos (h .accuracy) ∷ pos (h .xstep) ∷ pos (h .ystep) ∷ pos (h .zstep) ∷ pos (h .profiles) ∷ []
-
-abbrev pub countNumbers : Session → List ℤ
-countNumbers s =
-    pos (s .taken) ∷ pos (s .closed) ∷ pos (s .posts) ∷ pos (s .filled) ∷ s .low ∷ s .high ∷ pos (s .column) ∷ pos (s .finished) ∷ []
-
-abbrev pub profileNumbers : Profile → List ℤ
-profileNumbers p =
-    pos (p .posts) ∷ pos (p .row) ∷ p .datum ∷ p .least ∷ p .greatest ∷ pos (p .read) ∷ pos (p .filled) ∷ p .low ∷ p .high ∷ []
-
-abbrev pub numbersOf : Session → List ℤ
-numbersOf s = headerNumbers (s .header) ++ (countNumbers s ++ profileNumbers (s .profile))
+use Rattle.ledger.specs.Numbers.{kept}
 
 -- ---- the session that numbers say
 
-abbrev pub numberAt : List ℤ → ℕ → ℤ
-numberAt numbers i = getD numbers i (pos 0)
+abbrev pub keptAt : List ℤ → ℕ → ℤ
+keptAt numbers i = getD numbers i (pos 0)
 
-abbrev pub countAt : List ℤ → ℕ → ℕ
-countAt numbers i = notNegative (numberAt numbers i)
+abbrev pub countKept : List ℤ → ℕ → ℕ
+countKept numbers i = notNegative (keptAt numbers i)
 
-abbrev pub cornerAt : List ℤ → ℕ → ℕ → Corner
-cornerAt numbers i j = record { x = numberAt numbers i; y = numberAt numbers j }
+abbrev pub cornerKept : List ℤ → ℕ → ℕ → Corner
+cornerKept numbers i j = record { x = keptAt numbers i; y = keptAt numbers j }
 
 abbrev pub headerKept : List ℤ → Header
 headerKept numbers =
     record {
-      level = countAt numbers 0;
-      system = countAt numbers 1;
-      zone = countAt numbers 2;
-      ground = countAt numbers 3;
-      vertical = countAt numbers 4;
-      sw = cornerAt numbers 5 6;
-      nw = cornerAt numbers 7 8;
-      ne = cornerAt numbers 9 10;
-      se = cornerAt numbers 11 12;
-      least = numberAt numbers 13;
-      greatest = numberAt numbers 14;
-      accuracy = countAt numbers 15;
-      xstep = countAt numbers 16;
-      ystep = countAt numbers 17;
-      zstep = countAt numbers 18;
-      profiles = countAt numbers 19;
+      level = countKept numbers 0;
+      system = countKept numbers 1;
+      zone = countKept numbers 2;
+      ground = countKept numbers 3;
+      vertical = countKept numbers 4;
+      sw = cornerKept numbers 5 6;
+      nw = cornerKept numbers 7 8;
+      ne = cornerKept numbers 9 10;
+      se = cornerKept numbers 11 12;
+      least = keptAt numbers 13;
+      greatest = keptAt numbers 14;
+      accuracy = countKept numbers 15;
+      xstep = countKept numbers 16;
+      ystep = countKept numbers 17;
+      zstep = countKept numbers 18;
+      profiles = countKept numbers 19;
     }
 
 abbrev pub profileKept : List ℤ → Profile
 profileKept numbers =
     record {
-      posts = countAt numbers 28;
-      row = countAt numbers 29;
-      datum = numberAt numbers 30;
-      least = numberAt numbers 31;
-      greatest = numberAt numbers 32;
-      read = countAt numbers 33;
-      filled = countAt numbers 34;
-      low = numberAt numbers 35;
-      high = numberAt numbers 36;
+      posts = countKept numbers 28;
+      row = countKept numbers 29;
+      datum = keptAt numbers 30;
+      least = keptAt numbers 31;
+      greatest = keptAt numbers 32;
+      read = countKept numbers 33;
+      filled = countKept numbers 34;
+      low = keptAt numbers 35;
+      high = keptAt numbers 36;
     }
 
 abbrev pub sessionKept : List ℤ → Session
 sessionKept numbers =
     record {
       header = headerKept numbers;
-      taken = countAt numbers 20;
-      closed = countAt numbers 21;
-      posts = countAt numbers 22;
-      filled = countAt numbers 23;
-      low = numberAt numbers 24;
-      high = numberAt numbers 25;
-      column = countAt numbers 26;
-      finished = countAt numbers 27;
+      taken = countKept numbers 20;
+      closed = countKept numbers 21;
+      posts = countKept numbers 22;
+      filled = countKept numbers 23;
+      low = keptAt numbers 24;
+      high = keptAt numbers 25;
+      column = countKept numbers 26;
+      finished = countKept numbers 27;
       profile = profileKept numbers;
     }
 
@@ -130,10 +112,7 @@ soundSaid numbers = sound (sessionSaid numbers)
 abbrev pub completeSaid : List ℤ → Bool
 completeSaid numbers = soundSaid numbers and complete (sessionSaid numbers)
 
--- ---- numbers kept in a lent slice: "Numbers past `DEM_SESSION` are never looked at or changed."
-
-abbrev pub kept : Session → List ℤ → List ℤ
-kept s numbers = numbersOf s ++ drop 37 numbers
+-- ---- a delivery
 
 -- a delivery to the session that numbers say
 abbrev pub deliveredTo : List ℤ → ℕ → List ℕ → List ℤ → Delivered
@@ -143,14 +122,14 @@ abbrev pub gridLeft : List ℤ → ℕ → List ℕ → List ℤ → List ℤ
 gridLeft numbers number block grid = lentAfter (sessionSaid numbers) number block (lend grid) .grid
 
 -- the numbers of the session after it, where the block was taken; else as they were
-abbrev pub numbersBy : Answer → Session → List ℤ → List ℤ
-numbersBy Taken s numbers = kept s numbers
-numbersBy Held s numbers = numbers
-numbersBy (Refused kind block byte) s numbers = numbers
+abbrev pub numbersAfterAnswer : Answer → Session → List ℤ → List ℤ
+numbersAfterAnswer Taken s numbers = kept s numbers
+numbersAfterAnswer Held s numbers = numbers
+numbersAfterAnswer (Refused kind block byte) s numbers = numbers
 
 abbrev pub numbersLeft : List ℤ → ℕ → List ℕ → List ℤ → List ℤ
 numbersLeft numbers number block grid =
-    numbersBy (deliveredTo numbers number block grid .answer) (deliveredTo numbers number block grid .session) numbers
+    numbersAfterAnswer (deliveredTo numbers number block grid .answer) (deliveredTo numbers number block grid .session) numbers
 
 -- ---- a fresh one, and the lister's lines
 
@@ -160,5 +139,5 @@ openKind numbers = cond (leb 37 (length numbers)) 0 12
 abbrev pub reportSaid : List ℤ → List ℕ
 reportSaid numbers = cond (completeSaid numbers) (reportText (sessionSaid numbers)) []
 
-abbrev pub opened : Session → List ℤ → List ℤ
-opened s numbers = cond (leb 37 (length numbers)) (kept s numbers) numbers
+abbrev pub openedWith : Session → List ℤ → List ℤ
+openedWith s numbers = cond (leb 37 (length numbers)) (kept s numbers) numbers

@@ -6,15 +6,12 @@ use delivery::Answer;
 use delivery::Delivered;
 use session::Session;
 ghost use mathlib.Core.Path.{_≡_};
-ghost use mathlib.Core.Bool.{cond};
-ghost use lib.Dec.{leb};
-ghost use lib.ListN.{length};
 ghost use Rattle.session.specs.Session.{fresh};
 ghost use Rattle.delivery.specs.Deliver.{answerKind, answerPlace};
 ghost use Rattle.delivery.proofs.SoundOut.{Idle};
 ghost use Rattle.lines.specs.Lines.{Given};
 ghost use Rattle.slip.specs.Slip.{handed};
-ghost use Rattle.ledger.specs.Ledger.{sessionSaid, soundSaid, completeSaid, openKind, opened, deliveredTo, gridLeft, numbersLeft, numbersBy, reportSaid};
+ghost use Rattle.ledger.specs.Ledger.{sessionSaid, soundSaid, completeSaid, openKind, openedWith, deliveredTo, gridLeft, numbersLeft, numbersAfterAnswer, reportSaid};
 ghost use Rattle.ledger.specs.Steps.{Keepable};
 
 // The numbers of a session; include/desk.h names them DEM_SESSION.
@@ -33,7 +30,7 @@ pub fn session_of(numbers: &[i64]) -> Session
 
 // A fresh session: 0, or 12 and nothing changed where there are too few numbers.
 pub fn open(numbers: &mut [i64]) -> u32
-    ensures { λ r. ⌜ (r ≡ openKind (now (numbers .entry))) × (now (numbers .exit) ≡ opened fresh (now (numbers .entry))) ⌝ }
+    ensures { λ r. ⌜ (r ≡ openKind (now (numbers .entry))) × (now (numbers .exit) ≡ openedWith fresh (now (numbers .entry))) ⌝ }
 {
     if numbers.len() < NUMBERS {
         return 12;
@@ -45,7 +42,7 @@ pub fn open(numbers: &mut [i64]) -> u32
 // What a delivery came to, told: the numbers are changed only where the block was taken.
 fn settle(d: Delivered, numbers: &mut [i64], answer: &mut [u64]) -> u32
     requires { ⌜ Keepable d (now numbers) ⌝ }
-    ensures { λ r. ⌜ (r ≡ answerKind (d .answer)) × ((now (numbers .exit) ≡ numbersBy (d .answer) (d .session) (now (numbers .entry))) × (now (answer .exit) ≡ handed (answerPlace (d .answer)) (now (answer .entry)))) ⌝ }
+    ensures { λ r. ⌜ (r ≡ answerKind (d .answer)) × ((now (numbers .exit) ≡ numbersAfterAnswer (d .answer) (d .session) (now (numbers .entry))) × (now (answer .exit) ≡ handed (answerPlace (d .answer)) (now (answer .entry)))) ⌝ }
 {
     let told = d.answer;
     match told {

@@ -6,10 +6,10 @@ use session::Session;
 ghost use mathlib.Core.Path.{_≡_};
 ghost use Prim.Native.Nat.{_<_, _^_};
 ghost use Rattle.delivery.proofs.SoundOut.{Idle};
-ghost use Rattle.ledger.specs.Ledger.{numberAt, countAt, cornerAt, headerKept, profileKept, sessionKept, noneNegative, isSession};
+ghost use Rattle.ledger.specs.Ledger.{keptAt, countKept, cornerKept, headerKept, profileKept, sessionKept, noneNegative, isSession};
 
 fn number_at(numbers: &[i64], i: usize) -> i64
-    ensures { λ r. ⌜ r ≡ numberAt (now (numbers .entry)) i ⌝ }
+    ensures { λ r. ⌜ r ≡ keptAt (now (numbers .entry)) i ⌝ }
 {
     if i < numbers.len() {
         return numbers[i];
@@ -19,14 +19,14 @@ fn number_at(numbers: &[i64], i: usize) -> i64
 
 // A count: what no count says is read as 0.
 fn count_at(numbers: &[i64], i: usize) -> u64
-    ensures { λ r. ⌜ (r ≡ countAt (now (numbers .entry)) i) × (r < 2 ^ 63) ⌝ }
+    ensures { λ r. ⌜ (r ≡ countKept (now (numbers .entry)) i) × (r < 2 ^ 63) ⌝ }
 {
     let z = number_at(numbers, i);
     figures::not_negative(z)
 }
 
 fn corner_at(numbers: &[i64], i: usize, j: usize) -> Corner
-    ensures { λ r. ⌜ r ≡ cornerAt (now (numbers .entry)) i j ⌝ }
+    ensures { λ r. ⌜ r ≡ cornerKept (now (numbers .entry)) i j ⌝ }
 {
     let x = number_at(numbers, i);
     let y = number_at(numbers, j);

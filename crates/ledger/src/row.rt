@@ -7,13 +7,13 @@ ghost use mathlib.Core.List.{_++_};
 ghost use Prim.Native.Nat.{_+_, _≤_};
 ghost use lib.ListN.{length, drop};
 ghost use lib.Seq.{sets};
-ghost use Rattle.ledger.specs.Steps.{signed, headerRow, countRow, profileRow, rowOf};
+ghost use Rattle.ledger.specs.Steps.{withSign, headerRow, countRow, profileRow, rowOf};
 
 // The greatest number of 64 bits with a sign.
 const GREATEST: u64 = 9223372036854775807;
 
 fn signed(n: u64) -> i64
-    ensures { λ r. ⌜ r ≡ signed n ⌝ }
+    ensures { λ r. ⌜ r ≡ withSign n ⌝ }
 {
     if n < GREATEST {
         return n as i64;

@@ -14,7 +14,7 @@ use Rattle.laws.proofs.Tens.{ten-pos}
 use Rattle.laws.proofs.Shorts.{places-below}
 use Rattle.laws.proofs.Tests.{by-test, and-both, and-fails-first, and-fails-second}
 use Rattle.number.specs.Bytes.{number}
-use Rattle.numerals.specs.Numerals.{spell, count, digits, numeral, minus, fixed}
+use Rattle.numerals.specs.Numerals.{spell, count, digitsOf, numeral, minus, fixed}
 use Rattle.numerals.specs.Pieces.{Puts, GivenAt}
 use Rattle.numerals.proofs.Spelling.{spell-first, spell-length}
 use Rattle.numerals.proofs.Counts.{count-some, count-above, count-least, count-most}
@@ -30,10 +30,10 @@ first-above k n p h =
 pub count-below : (none k n : ℕ) → 0 < n → n < 10 ^ k → 10 ^ (count none k n - 1) ≤ n
 count-below none k n p h = rw (count-some none k n (λ e. omega arith)) (places-below k n p h)
 
-pub spells : (k n : ℕ) → 0 < k → n < 10 ^ k → number 0 (digits k n) ≡ n
+pub spells : (k n : ℕ) → 0 < k → n < 10 ^ k → number 0 (digitsOf k n) ≡ n
 spells k n p h = spell-number (count 1 k n) n (count-above 1 k n h)
 
-pub no-zero-first : (k n : ℕ) → 0 < k → n < 10 ^ k → 0 < n → 48 < getD (digits k n) 0 0
+pub no-zero-first : (k n : ℕ) → 0 < k → n < 10 ^ k → 0 < n → 48 < getD (digitsOf k n) 0 0
 no-zero-first k n p h z = first-above (count 1 k n) n (count-least 1 k n (omega arith) h) (count-below 1 k n z h)
 
 -- every number of 64 bits

@@ -22,12 +22,12 @@ unfoldable pub count : ℕ → ℕ → ℕ → ℕ
 count none k n = cond (eqb n 0) none (places k n)
 
 -- a number's decimal digits, at most k of them: no zeros before them, and zero is 0
-abbrev pub digits : ℕ → ℕ → List ℕ
-digits k n = spell (count 1 k n) n
+abbrev pub digitsOf : ℕ → ℕ → List ℕ
+digitsOf k n = spell (count 1 k n) n
 
 -- no number of 64 bits has more than 20 digits
 abbrev pub numeral : ℕ → List ℕ
-numeral n = digits 20 n
+numeral n = digitsOf 20 n
 
 -- a minus before a number below zero
 abbrev pub minus : ℤ → List ℕ

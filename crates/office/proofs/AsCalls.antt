@@ -3,18 +3,17 @@ use Prim.Native.Nat.{ℕ}
 use mathlib.Core.Bool.{Bool, cond, true, false, not}
 use mathlib.Core.List.{List, [], _∷_, _++_}
 use mathlib.Core.Path.{_≡_, refl, sym, _∙_, ap, ap₂, subst}
-use borrow.Author.Tests.{eqb-true, eqb-false, ne-eqb}
+use borrow.Author.Tests.{eqb-false}
 use native.Mathlib.Omega.{arith}
 use lib.Dec.{eqb, ltb}
 use lib.IntN.{ℤ}
 use lib.ListN.{length, drop}
-use Rattle.laws.proofs.Tests.{by-test, clash}
+use Rattle.laws.proofs.Tests.{by-test}
 use Rattle.session.specs.declared.Session.{Session}
-use Rattle.session.specs.Session.{fresh, begun}
+use Rattle.session.specs.Session.{begun}
 use Rattle.delivery.specs.declared.Answer.{Answer}
 use Rattle.delivery.specs.declared.Answer.the-variants.{Taken, Held, Refused}
-use Rattle.delivery.specs.declared.Delivered.{Delivered}
-use Rattle.delivery.specs.Deliver.{Lent, Room, lend, roomOf, tooShort, Verdict, again, wrong, begins, fills, answerOf, verdictOf, answerKind, answerPlace}
+use Rattle.delivery.specs.Deliver.{Room, lend, roomOf, tooShort, Verdict, again, wrong, begins, fills, answerOf, verdictOf, answerKind, answerPlace}
 use Rattle.ground.specs.Blocks.{blocksIn}
 use Rattle.meaning.specs.Rules.{Breach, firstBreach, isComplete}
 use Rattle.meaning.specs.Text.{headerIn}
@@ -22,7 +21,8 @@ use Rattle.meaning.specs.Deliveries.{Delivery, Call, Promised, Calls, noCall, c
 use Rattle.meaning.proofs.Desks.{Desk, desk, answered, after, call-desk}
 use Rattle.meaning.proofs.OneDelivery.{Stands, answer-told, stands-next}
 use Rattle.slip.specs.Slip.{handed}
-use Rattle.ledger.specs.Ledger.{sessionSaid, numbersOf, kept, numbersBy, deliveredTo, numbersLeft, gridLeft}
+use Rattle.ledger.specs.Numbers.{kept}
+use Rattle.ledger.specs.Ledger.{sessionSaid, numbersAfterAnswer, deliveredTo, numbersLeft, gridLeft}
 use Rattle.ledger.proofs.Inverse.{said-back}
 use Rattle.office.specs.DeskCalls.{DeskCall, DeskPromised, DeskCalls, noCall as noDeskCall, called as deskCalled, numbersAfter, cellsAfter, textTaken, sentBlocks}
 
@@ -42,13 +42,13 @@ module _ (numbers base : List ℤ) where
   abbrev s : Session
   s = sessionSaid numbers
 
-  says : (v : Verdict) → sessionSaid (numbersBy (answerOf s v .answer) (answerOf s v .session) numbers) ≡ answerOf s v .session
+  says : (v : Verdict) → sessionSaid (numbersAfterAnswer (answerOf s v .answer) (answerOf s v .session) numbers) ≡ answerOf s v .session
   says again = refl
   says (wrong kind block byte) = refl
   says (begins h) = said-back (begun h) (drop 37 numbers)
   says (fills after at hs) = said-back after (drop 37 numbers)
 
-  keeps : numbers ≡ kept s base → (v : Verdict) → numbersBy (answerOf s v .answer) (answerOf s v .session) numbers ≡ kept (answerOf s v .session) base
+  keeps : numbers ≡ kept s base → (v : Verdict) → numbersAfterAnswer (answerOf s v .answer) (answerOf s v .session) numbers ≡ kept (answerOf s v .session) base
   keeps e again = e
   keeps e (wrong kind block byte) = e
   keeps e (begins h) = ap (λ (l : List ℤ). kept (begun h) l) e

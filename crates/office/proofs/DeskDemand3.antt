@@ -1,31 +1,30 @@
 -- Demand 3, the front door for C. Everything here is said of one call of `dem_open` that answered 0 and any list of calls of `dem_deliver`
 -- behind it, numbers and grid handed back as last left; each keeps its promise word for word (paper, proof Contracts).
 use Prim.Native.Nat.{ℕ, _≤_, _<_}
-use mathlib.Core.Bool.{true, false, cond}
-use mathlib.Core.List.{List, [], _∷_}
+use mathlib.Core.List.{List, []}
 use mathlib.Core.Logic.{_↔_}
 use mathlib.Core.Path.{_≡_, refl, sym, _∙_, ap, subst}
 use native.Mathlib.Omega.{arith}
-use borrow.Author.Tests.{eqb-true, eq-eqb}
-use lib.Dec.{eqb, leb}
+use lib.Dec.{leb}
 use lib.IntN.{ℤ}
 use lib.ListN.{length, take, drop}
-use Rattle.laws.proofs.Tests.{by-test, clash}
+use Rattle.laws.proofs.Tests.{by-test}
 use Rattle.ground.specs.Blocks.{blocksIn}
 use Rattle.ground.specs.Posts.{void, filledIn}
 use Rattle.session.specs.declared.Session.{Session}
 use Rattle.session.specs.Session.{fresh}
 use Rattle.delivery.specs.declared.Answer.{Answer}
-use Rattle.delivery.specs.declared.Answer.the-variants.{Taken, Held, Refused}
+use Rattle.delivery.specs.declared.Answer.the-variants.{Taken}
 use Rattle.delivery.specs.Deliver.{lend, roomOf, answerKind, answerPlace, verdictOf, Verdict, again, wrong, begins, fills, answerOf}
 use Rattle.meaning.specs.Text.{profilesIn, cellsIn, postsIn, heightIn, allPosts, filledPosts, cellOfPost}
 use Rattle.meaning.specs.Means.{sessionOf, gridOf}
-use Rattle.meaning.specs.Deliveries.{Delivery, Call, Calls, Promised, Fresh, sessionAfter, gridAfter, takenText, deliveries, twice, Due, Holds, answerTo}
+use Rattle.meaning.specs.Deliveries.{Calls, Promised, Fresh, sessionAfter, gridAfter, takenText, twice, Due, Holds, answerTo}
 use Rattle.meaning.proofs.Desks.{desk}
 use Rattle.meaning.proofs.OneDelivery.{Stands, stands-first}
 use Rattle.meaning.proofs.Demand3 as Demand3
 use Rattle.slip.specs.Slip.{handed}
-use Rattle.ledger.specs.Ledger.{sessionSaid, kept, numbersBy}
+use Rattle.ledger.specs.Numbers.{kept}
+use Rattle.ledger.specs.Ledger.{sessionSaid, numbersAfterAnswer}
 use Rattle.ledger.proofs.Inverse.{said-back}
 use Rattle.office.specs.DeskCalls.{OpenPromised, DeskCall, DeskPromised, DeskCalls, numbersAfter, cellsAfter, textTaken, sentBlocks}
 use Rattle.office.proofs.AsCalls.{asCall, asCalls, as-calls, as-promised, as-cells, as-sent, as-numbers, as-text, told-bytes}
@@ -42,7 +41,7 @@ opened-fresh room numbers o = ap sessionSaid (opened-is room numbers o) ∙ said
 
 -- what is not taken leaves the numbers
 left-alone : (s : Session) (v : Verdict) (numbers : List ℤ) → (answerOf s v .answer ≡ Taken → ⊥)
-    → numbersBy (answerOf s v .answer) (answerOf s v .session) numbers ≡ numbers
+    → numbersAfterAnswer (answerOf s v .answer) (answerOf s v .session) numbers ≡ numbers
 left-alone s again numbers not = refl
 left-alone s (wrong kind block byte) numbers not = refl
 left-alone s (begins h) numbers not = absurd (not refl)

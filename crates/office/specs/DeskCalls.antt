@@ -9,12 +9,12 @@ use Rattle.session.specs.Session.{fresh}
 use Rattle.delivery.specs.Deliver.{answerKind, answerPlace}
 use Rattle.meaning.specs.Deliveries.{Delivery}
 use Rattle.slip.specs.Slip.{handed}
-use Rattle.ledger.specs.Ledger.{openKind, opened, deliveredTo, numbersLeft, gridLeft}
+use Rattle.ledger.specs.Ledger.{openKind, openedWith, deliveredTo, numbersLeft, gridLeft}
 
 -- what `dem_open` promises of numbers that it is lent, word for word
 pub record OpenPromised (lent : List ℤ) (result : ℕ) (numbers : List ℤ) : Type 0 where
   pub tells : result ≡ openKind lent
-  pub keeps : numbers ≡ opened fresh lent
+  pub keeps : numbers ≡ openedWith fresh lent
 
 -- one call: what is delivered, the slice for the answer as lent; the result, and numbers, grid and answer as it left them
 pub record DeskCall : Type 0 where

@@ -1,2 +1,3 @@
 pub mod Cells
+pub mod Room
 pub mod Examples

@@ -15,7 +15,7 @@ ghost use Rattle.sender.specs.Input.{cellsFrom, bytesOf};
 // 146 rows, and the columns are so few that the blocks are fewer in all.
 const MOST: usize = 2098176;
 
-// The bytes of so many blocks; more than there can be get none, and the writer then refuses the buffer.
+// The bytes of so many blocks. More than 2,049 there cannot be (proof Room); they would get none, and the writer would refuse the buffer.
 fn bytes_of(count: u64) -> usize
     ensures { λ r. ⌜ r ≡ bytesOf count ⌝ }
 {

@@ -1,7 +1,7 @@
 -- Block 0 as it is sent: every number of a good header fits its field, so each piece fills its place, and the block is 1,024 bytes.
-use mathlib.Core.Bool.{Bool, true, false, cond}
-use Prim.Native.Nat.{_+_, _-_, ℕ, zero, suc, _≤_, _*_, _^_}
-use lib.Dec.{leb, eqb, ltb}
+use mathlib.Core.Bool.{Bool, true}
+use Prim.Native.Nat.{_+_, _-_, ℕ, zero, suc, _≤_, _^_}
+use lib.Dec.{leb, ltb}
 use lib.IntN.{pos, ℤ, natAbs}
 use mathlib.Core.List.{List, [], _∷_, map}
 use mathlib.Core.Path.{_≡_, refl, _∙_, ap₂}
@@ -13,8 +13,6 @@ use Rattle.laws.specs.Lists.{joined}
 use Rattle.laws.proofs.Tables.{all}
 use Rattle.laws.proofs.Tests.{and-first, and-second, split, and-both}
 use Rattle.numerals.proofs.Numerals.{minus-short}
-use Rattle.field.specs.Field.{inRange, limits}
-use Rattle.field.specs.declared.Limits.{Limits}
 use Rattle.frame.specs.declared.Header.{Header}
 use Rattle.frame.specs.declared.Corner.{Corner}
 use Rattle.frame.specs.Frame.{columnsOf}

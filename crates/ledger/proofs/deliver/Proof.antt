@@ -5,7 +5,7 @@ use Rattle.delivery.specs.declared.Delivered.{Delivered}
 use Rattle.delivery.specs.Deliver.{lend, deliverOf, lentAfter, answerKind, answerPlace}
 use Rattle.delivery.proofs.SoundOut.{Idle}
 use Rattle.slip.specs.Slip.{handed}
-use Rattle.ledger.specs.Ledger.{deliveredTo, numbersBy}
+use Rattle.ledger.specs.Ledger.{deliveredTo, numbersAfterAnswer}
 use Rattle.ledger.specs.Steps.{Keepable}
 use Rattle.ledger.proofs.Keeping.{keepable}
 use borrow.Author.Needs.{needs}
@@ -58,7 +58,7 @@ returns c =
     let r = n .settle .ensures in (
       r .0 ∙ ap (λ (x : Delivered). answerKind (x .answer)) e,
       (
-        r .1 .0 ∙ ap (λ (x : Delivered). numbersBy (x .answer) (x .session) (a .args .numbers .now)) e,
+        r .1 .0 ∙ ap (λ (x : Delivered). numbersAfterAnswer (x .answer) (x .session) (a .args .numbers .now)) e,
         (
           d .deliver .ensures .1
               ∙ ap (λ (x : Session). lentAfter x (a .args .number) (a .args .block .now) (lend (a .args .grid .now)) .grid)

@@ -1,11 +1,10 @@
 -- Zeros, where there is room for them.
 use mathlib.Core.Bool.{true, false}
-use mathlib.Core.List.{List, _++_}
-use mathlib.Core.Path.{_≡_, refl, sym, _∙_, ap}
+use mathlib.Core.List.{_++_}
+use mathlib.Core.Path.{_≡_, refl, _∙_, ap}
 use native.Mathlib.Omega.{arith}
 use borrow.Author.Tests.{le-leb, lt-leb}
 use lib.Dec.{leb}
-use lib.IntN.{ℤ}
 use lib.ListN.{length, drop}
 use Rattle.session.specs.declared.Session.{Session}
 use Rattle.ledger.specs.Steps.{rowOf}

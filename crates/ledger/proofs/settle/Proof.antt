@@ -1,12 +1,12 @@
 -- Each answer with its number and place; only a taken one changes the numbers.
-use mathlib.Core.List.{List, [], _∷_, _++_}
-use mathlib.Core.Path.{_≡_, refl, sym, _∙_, ap}
+use mathlib.Core.List.{List, _++_}
+use mathlib.Core.Path.{sym, _∙_, ap}
 use lib.IntN.{ℤ}
 use lib.ListN.{drop}
 use Rattle.delivery.specs.declared.Answer.{Answer}
 use Rattle.delivery.specs.Deliver.{answerKind, answerPlace}
 use Rattle.slip.specs.Slip.{handed}
-use Rattle.ledger.specs.Ledger.{numbersBy}
+use Rattle.ledger.specs.Ledger.{numbersAfterAnswer}
 use borrow.Author.Needs.{needs}
 use Rattle.ledger.proofs.settle.Statement.{statement}
 use Rattle.ledger.proofs.settle.Tie as tie
@@ -61,7 +61,7 @@ returns c =
       (
         k .keep .ensures
             ∙ ap (λ (l : List ℤ). l ++ drop 37 (s .args .numbers .now)) (s .pre .fits e)
-            ∙ ap (λ (a : Answer). numbersBy a (s .args .d .session) (s .args .numbers .now)) (sym e),
+            ∙ ap (λ (a : Answer). numbersAfterAnswer a (s .args .d .session) (s .args .numbers .now)) (sym e),
         n .hand .ensures ∙ ap (λ (a : Answer). handed (answerPlace a) (s .args .answer .now)) (sym e),
       ),
     )
@@ -77,7 +77,7 @@ returns-2 c =
     let e = m .enum-told2 .given .1 in (
       ap answerKind (sym e),
       (
-        ap (λ (a : Answer). numbersBy a (s .args .d .session) (s .args .numbers .now)) (sym e),
+        ap (λ (a : Answer). numbersAfterAnswer a (s .args .d .session) (s .args .numbers .now)) (sym e),
         n .hand2 .ensures ∙ ap (λ (a : Answer). handed (answerPlace a) (s .args .answer .now)) (sym e),
       ),
     )
@@ -93,7 +93,7 @@ returns-3 c =
     let e = m .told .given .1 in (
       ap answerKind (sym e),
       (
-        ap (λ (a : Answer). numbersBy a (s .args .d .session) (s .args .numbers .now)) (sym e),
+        ap (λ (a : Answer). numbersAfterAnswer a (s .args .d .session) (s .args .numbers .now)) (sym e),
         n .hand3 .ensures ∙ ap (λ (a : Answer). handed (answerPlace a) (s .args .answer .now)) (sym e),
       ),
     )

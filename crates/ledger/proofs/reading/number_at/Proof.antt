@@ -3,7 +3,6 @@ use mathlib.Core.Path.{sym}
 use lib.IntN.{pos}
 use lib.ListN.{List·getD-eq-default}
 use native.Mathlib.Omega.{arith}
-use borrow.Author.Tests.{ltb-false}
 use borrow.Author.Needs.{needs}
 use Rattle.ledger.proofs.reading.number_at.Statement.{statement}
 use Rattle.ledger.proofs.reading.number_at.Tie as tie

@@ -1,5 +1,5 @@
 -- The open profile's nine.
-use mathlib.Core.List.{List, [], _∷_}
+use mathlib.Core.List.{[], _∷_}
 use mathlib.Core.Path.{_∙_, refl}
 use lib.Seq.{sets}
 use Rattle.ledger.proofs.Counts.{told}
