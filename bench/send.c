@@ -1,15 +1,11 @@
 /* The writer on a sheet of 1201 x 1201 cells: every block by a call of its own, and the whole sheet by one call into a lent buffer.
  * A call for one block looks at the whole grid, so only some are made, and the time of all is told from them. Both must write the same. */
-#include <stddef.h>
-#include <stdint.h>
 #include <stdio.h>
 #include <stdlib.h>
 #include <string.h>
 #include <time.h>
 
-uint64_t dem_block_count(const uint8_t *template, size_t length, const int32_t *grid, size_t cells);
-uint32_t dem_write_block(const uint8_t *template, size_t length, const int32_t *grid, size_t cells, uint64_t number, uint8_t *block, size_t bytes);
-uint32_t dem_write_sheet(const uint8_t *template, size_t length, const int32_t *grid, size_t cells, uint8_t *out, size_t bytes);
+#include "desk.h"
 
 enum { SIDE = 1201, CELLS = SIDE * SIDE, CALLS = 40 };
 
@@ -40,6 +36,7 @@ static void make_template(uint8_t *block) {
 int main(void) {
     static uint8_t template[1024], block[1024];
     static int32_t grid[CELLS];
+    uint64_t answer[1];
     make_template(template);
     for (int i = 0; i < CELLS; i++) grid[i] = 100 * (i % 3001 - 1000);
     uint64_t count = dem_block_count(template, 1024, grid, CELLS);
@@ -47,16 +44,16 @@ int main(void) {
     uint8_t *out = malloc(count * 1024);
     if (out == NULL) return 1;
     double start = now();
-    uint32_t kind = dem_write_sheet(template, 1024, grid, CELLS, out, count * 1024);
+    uint32_t kind = dem_write_sheet(template, 1024, grid, CELLS, out, count * 1024, answer, 1);
     double whole = now() - start;
-    if (kind != 0) return printf("refused %u\n", (unsigned)kind), 1;
+    if (kind != 0) return printf("refused %u %llu\n", (unsigned)kind, (unsigned long long)answer[0]), 1;
     double single = 0;
     for (int i = 0; i < CALLS; i++) {
-        uint64_t number = (uint64_t)i * (count - 1) / (CALLS - 1);
+        uint32_t number = (uint32_t)((uint64_t)i * (count - 1) / (CALLS - 1));
         start = now();
-        kind = dem_write_block(template, 1024, grid, CELLS, number, block, 1024);
+        kind = dem_write_block(template, 1024, grid, CELLS, number, block, 1024, answer, 1);
         single += now() - start;
-        if (kind != 0 || memcmp(block, out + 1024 * number, 1024) != 0) return printf("block %u differs\n", (unsigned)number), 1;
+        if (kind != 0 || memcmp(block, out + 1024 * (size_t)number, 1024) != 0) return printf("block %u differs\n", (unsigned)number), 1;
     }
     single = single / CALLS * (double)count;
     printf("blocks %u\n", (unsigned)count);

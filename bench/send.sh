@@ -4,7 +4,7 @@ set -euo pipefail
 cd "$(dirname "$0")/.."
 . .ci/setup
 x86_needs_cc
-rt staticlib pace_send >/dev/null
+rt staticlib desk >/dev/null
 mkdir -p target/x86
-"$x86_cc" -std=gnu99 -O2 -static -Wall -Wextra -Werror bench/send.c target/staticlib/libpace_send.a -o target/x86/send.bin
+"$x86_cc" -std=gnu99 -O2 -static -Wall -Wextra -Werror -Iinclude bench/send.c target/staticlib/libdesk.a -o target/x86/send.bin
 ${x86_run[0]:+"${x86_run[0]}"} target/x86/send.bin

@@ -1,6 +1,7 @@
 #!/usr/bin/env bash
-# The survey beside a careful C reader, GDAL and plain reading, as ratios in one run: bench/speed.sh (docs/SPEED.md tells what it showed).
-# It asserts that all say the same of the sheet, and no time. Needs gcc and valgrind; with GDAL (libgdal-dev) it is measured too.
+# The survey and the desk's call dem_deliver beside a careful C reader, GDAL and plain reading, as ratios in one run: bench/speed.sh
+# (docs/SPEED.md tells what it showed). It asserts that all say the same of the sheet, and no time. Needs gcc and valgrind; with GDAL
+# (libgdal-dev) it is measured too.
 set -euo pipefail
 cd "$(dirname "$0")/.."
 . .ci/setup
@@ -12,9 +13,9 @@ room=$(mktemp -d)
 chmod 755 "$room" # rt runs a program as nobody
 trap 'rm -rf "$room"' EXIT
 
-# rt builds for x86-64. On another processor the survey is built again in a copy by a clang that keeps the module which rattle hands it,
+# rt builds for x86-64. On another processor a crate is built again in a copy by a clang that keeps the module which rattle hands it,
 # and that module is compiled for this processor: the same code below the proof, another back end of the same clang.
-ours_elsewhere() {
+elsewhere() {
     local copy=$room/copy kit=$room/kit own=on/$(uname -m)
     mkdir -p "$copy/target" "$kit/$own/toolchain/bin"
     ln -s "$home"/[!o]* "$kit/"
@@ -24,20 +25,33 @@ ours_elsewhere() {
     { echo '#!/bin/sh'; echo "cp module.bc '$room/module.bc'"; echo "exec '$tools/bin/clang' \"\$@\""; } >"$kit/$own/toolchain/bin/clang"
     chmod +x "$kit/$own/toolchain/bin/clang"
     cp -r crates crates.txt "$copy/" && cp -r target/rlib target/stamp "$copy/target/" && rm -r "$copy/target/stamp/survey"
-    (cd "$copy" && RATTLE_HOME=$kit rt check survey >"$room/log" 2>&1) || { cat "$room/log"; exit 1; }
-    "$tools/bin/clang" -O3 -fPIE -Wno-override-module -c -x ir "$room/module.bc" -o "$room/ours.o" 2>/dev/null
-    gcc "$room/ours.o" -o "$room/ours"
+}
+
+object_elsewhere() { # OBJECT OPTION WORDS OF RT..
+    (cd "$room/copy" && RATTLE_HOME=$room/kit rt "${@:3}" >"$room/log" 2>&1) || { cat "$room/log"; exit 1; }
+    "$tools/bin/clang" -O3 "$2" -Wno-override-module -c -x ir "$room/module.bc" -o "$room/$1" 2>/dev/null
 }
 
 rt check survey >/dev/null
-if [ "$(uname -m)" = x86_64 ]; then cp target/bin/survey "$room/ours"; else ours_elsewhere; fi
+rt staticlib desk >"$room/log" 2>&1 || { cat "$room/log"; exit 1; }
+if [ "$(uname -m)" = x86_64 ]; then
+    cp target/bin/survey "$room/survey"
+    cp target/staticlib/libdesk.a "$room/desk"
+else
+    elsewhere
+    object_elsewhere survey.o -fPIE check survey
+    gcc "$room/survey.o" -o "$room/survey"
+    object_elsewhere desk -fPIC staticlib desk
+fi
 for name in sheet plain; do gcc -O2 -Wall -Wextra -Werror "bench/$name.c" -o "$room/$name"; done
+gcc -O2 -Wall -Wextra -Werror -Iinclude bench/deliver.c "$room/desk" -o "$room/dem_deliver"
 gcc -O2 -Wall -Wextra -Werror bench/survey.c -o "$room/gcc-O2"
 gcc -O3 bench/survey.c -o "$room/gcc-O3"
 "$tools/bin/clang" -O3 -isystem "$(gcc -print-file-name=include)" -isystem /usr/include -isystem "/usr/include/$(gcc -dumpmachine)" \
     -c bench/survey.c -o "$room/clang.o"
 gcc "$room/clang.o" -o "$room/clang-O3"
-readers=(ours gcc-O2 gcc-O3 clang-O3)
+ours=(survey dem_deliver)
+the_c=(gcc-O2 gcc-O3 clang-O3)
 gdal=
 if command -v gdal-config >/dev/null; then
     # shellcheck disable=SC2046 # words of a command
@@ -73,8 +87,8 @@ instructions() { # PROGRAM SHEET
 
 agree() { # SHEET
     local name rows columns filled
-    "$room/ours" <"$1" >"$room/said"
-    for name in "${readers[@]}"; do "$room/$name" <"$1" | cmp - "$room/said" || { echo "$name says something else"; exit 1; }; done
+    "$room/survey" <"$1" >"$room/said"
+    for name in dem_deliver "${the_c[@]}"; do "$room/$name" <"$1" | cmp - "$room/said" || { echo "$name says something else"; exit 1; }; done
     [ -z "$gdal" ] || {
         read -r rows columns filled _ < <("$room/gdal" "$1")
         awk -v r="$rows" -v c="$columns" -v f="$filled" '$1 == "sheet" { ok = $2 == r && $3 == c } $1 == "posts" { ok = ok && $2 - $4 == f } END { exit !ok }' "$room/said" ||
@@ -85,17 +99,22 @@ agree() { # SHEET
 for kind in smooth rough; do
     "$room/sheet" 1201 1201 "$kind" >"$room/$kind.dem"
     agree "$room/$kind.dem"
-    timed "$room/$kind.dem" "${readers[@]}" plain ${gdal:+gdal}
-    echo "1201 x 1201, $kind: ours ${best[ours]} us"
-    for name in "${readers[@]:1}" plain ${gdal:+gdal}; do echo "    ours/$name $(ratio "${best[ours]}" "${best[$name]}")"; done
-    for name in "${readers[@]}"; do echo "    instructions a post, $name: $(ratio "$(instructions "$name" "$room/$kind.dem")" 1442401)"; done
+    timed "$room/$kind.dem" "${ours[@]}" "${the_c[@]}" plain ${gdal:+gdal}
+    echo "1201 x 1201, $kind: survey ${best[survey]} us, dem_deliver ${best[dem_deliver]} us"
+    echo "    dem_deliver/survey $(ratio "${best[dem_deliver]}" "${best[survey]}")"
+    for name in "${the_c[@]}" plain ${gdal:+gdal}; do
+        for our in "${ours[@]}"; do echo "    $our/$name $(ratio "${best[$our]}" "${best[$name]}")"; done
+    done
+    for name in "${ours[@]}" "${the_c[@]}"; do echo "    instructions a post, $name: $(ratio "$(instructions "$name" "$room/$kind.dem")" 1442401)"; done
 done
-declare -A first
-for side in 300 600 1200; do
-    "$room/sheet" $side $side smooth >"$room/growth.dem"
-    timed "$room/growth.dem" ours
-    count=$(instructions ours "$room/growth.dem")
-    [ -n "${first[us]:-}" ] || first=([us]=${best[ours]} [count]=$count)
-    echo "posts x $((side * side / 90000)): time x $(ratio "${best[ours]}" "${first[us]}"), instructions x $(ratio "$count" "${first[count]}")"
+for our in "${ours[@]}"; do
+    declare -A first=()
+    for side in 300 600 1200; do
+        "$room/sheet" $side $side smooth >"$room/growth.dem"
+        timed "$room/growth.dem" "$our"
+        count=$(instructions "$our" "$room/growth.dem")
+        [ -n "${first[us]:-}" ] || first=([us]=${best[$our]} [count]=$count)
+        echo "$our, posts x $((side * side / 90000)): time x $(ratio "${best[$our]}" "${first[us]}"), instructions x $(ratio "$count" "${first[count]}")"
+    done
 done
 echo "on $(uname -m); $(gcc --version | head -1); $("$tools/bin/clang" --version | head -1)${gdal:+; GDAL $(gdal-config --version)}"
