@@ -93,7 +93,7 @@ fn scan_posts(
     while i < n {
         let start = first - 1;
         let end = start + 6;
-        let r = judge_post(number::read_integer(&block[start..end]));
+        let r = judge_post(six::read_six(&block[start..end]));
         if r.kind != 0 {
             let f = field::fault_or(r, first as u32, field::no_fault());
             return Scan {

@@ -31,17 +31,17 @@ sub-start c = omega arith
 add-end : tie.Need-add-end Inv-loop μ-loop
 add-end c = omega arith
 
-sub-read-integer : tie.Need-sub-read-integer Inv-loop μ-loop
-sub-read-integer c = omega arith
+sub-read-six : tie.Need-sub-read-six Inv-loop μ-loop
+sub-read-six c = omega arith
 
-part-read-integer-start : tie.Need-part-read-integer-start Inv-loop μ-loop
-part-read-integer-start c = omega arith
+part-read-six-start : tie.Need-part-read-six-start Inv-loop μ-loop
+part-read-six-start c = omega arith
 
-part-read-integer-end : tie.Need-part-read-integer-end Inv-loop μ-loop
-part-read-integer-end c = omega arith
+part-read-six-end : tie.Need-part-read-six-end Inv-loop μ-loop
+part-read-six-end c = omega arith
 
-read-integer-requires : tie.Need-read-integer-requires Inv-loop μ-loop
-read-integer-requires c κs = search needs
+read-six-requires : tie.Need-read-six-requires Inv-loop μ-loop
+read-six-requires c κs = search needs
 
 judge-post-requires : tie.Need-judge-post-requires Inv-loop μ-loop
 judge-post-requires c κs = search needs
@@ -64,7 +64,7 @@ judged c =
     let e : l .loop .first - 1 + 6 - (l .loop .first - 1) ≡ 6 = omega arith in
     c .judge-post .ensures
     ∙ ap judgePost
-    (c .before .read-integer .ensures
+    (c .before .read-six .ensures
     ∙ ap (λ (k : ℕ). integer (take k (drop (l .loop .first - 1) (l .before .before .args .block .now)))) e)
 
 same-length : tie.Need-same-length Inv-loop μ-loop
@@ -171,10 +171,10 @@ scan-posts-spec =
     loop-holds
     sub-start
     add-end
-    sub-read-integer
-    part-read-integer-start
-    part-read-integer-end
-    read-integer-requires
+    sub-read-six
+    part-read-six-start
+    part-read-six-end
+    read-six-requires
     judge-post-requires
     cast-fault-or
     no-fault-requires

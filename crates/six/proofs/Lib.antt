@@ -1,0 +1,4 @@
+pub mod FromTheEnd
+pub mod Bytes
+pub mod Fronts
+pub mod OneAnswer
