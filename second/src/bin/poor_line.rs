@@ -120,7 +120,7 @@ impl<'a> Sending<'a> {
     fn press_and_kill(&mut self) -> Checked {
         let before = self.taken();
         let line = line::poor(&mut self.dice, self.sheet, before);
-        let kill = any_kill(&mut self.dice, self.usual);
+        let kill = any_kill(&mut self.dice, &line.bytes, self.usual);
         let ended = self.button.press(&line.bytes, &kill);
         if ended.status.is_some() {
             self.note("ended before the kill");

@@ -18,8 +18,12 @@ pub struct Button {
 pub enum Kill {
     Never,
     After(Duration),
-    /// So long after the new state has begun to be written.
-    Writing(Duration),
+    /// After so long, with so many bytes of the line sent and the line still open: however fast the
+    /// machine, the press cannot have ended.
+    Waiting(usize, Duration),
+    /// So long after the new state has begun to be written, the line still open; or at the latest
+    /// after the second time, should the writing not have been seen.
+    Writing(Duration, Duration),
 }
 
 /// How a press ended; no status if it was killed.
@@ -147,12 +151,21 @@ fn run(command: &mut Command, line: &[u8], kill: &Kill, fresh: &Path) -> Ended {
     let output = child.stdout.take().expect("asked for");
     let errors = child.stderr.take().expect("asked for");
     thread::scope(|scope| {
+        let (sent, open) = match kill {
+            Kill::Never | Kill::After(_) => (line, false),
+            Kill::Waiting(bytes, _) => (&line[..*bytes], true),
+            Kill::Writing(..) => (line, true),
+        };
         // A press may end before its line does: no fault.
-        scope.spawn(move || drop(lent.write_all(line)));
+        let lent = scope.spawn(move || {
+            let _ = lent.write_all(sent);
+            open.then_some(lent)
+        });
         let output = scope.spawn(|| text(output));
         let errors = scope.spawn(|| text(errors));
         wait(&mut child, kill, fresh);
         let status = child.wait().expect("a child can be waited for");
+        drop(lent.join().expect("writing does not panic"));
         Ended {
             status: status.code(),
             output: output.join().expect("reading does not panic"),
@@ -176,30 +189,40 @@ fn wait(child: &mut Child, kill: &Kill, fresh: &Path) {
         }
         let due = match kill {
             Kill::Never => start.elapsed() > LONGEST_PRESS,
-            Kill::After(time) => start.elapsed() >= *time,
-            Kill::Writing(_) => began(fresh).is_some_and(|time| Some(time) != before),
+            Kill::After(time) | Kill::Waiting(_, time) => start.elapsed() >= *time,
+            Kill::Writing(_, latest) => {
+                let seen = began(fresh).is_some_and(|time| Some(time) != before);
+                seen || start.elapsed() >= *latest
+            }
         };
         if due {
-            if let Kill::Writing(time) = kill {
+            if let Kill::Writing(time, _) = kill {
                 thread::sleep(*time);
             }
             child.kill().expect("a child can be killed");
             return;
         }
         let pause = match kill {
-            Kill::Writing(_) => 50,
+            Kill::Writing(..) => 20,
             _ => 500,
         };
         thread::sleep(Duration::from_micros(pause));
     }
 }
 
-/// At any moment of a press, or while the state is being written.
-pub fn any_kill(dice: &mut Dice, usual: Duration) -> Kill {
+/// At any moment of a press on this line, or while the state is being written; one in four may come
+/// too late. A press takes as long as usual.
+pub fn any_kill(dice: &mut Dice, line: &[u8], usual: Duration) -> Kill {
     let share = |dice: &mut Dice, of: Duration| of.mul_f64(dice.size(0, 1_000) as f64 / 1_000.0);
-    if dice.one_in(2) {
-        Kill::After(share(dice, usual))
-    } else {
-        Kill::Writing(share(dice, Duration::from_millis(2)))
+    match dice.size(0, 3) {
+        0 => Kill::After(share(dice, usual)),
+        1 => Kill::Waiting(
+            dice.size(0, line.len()),
+            share(dice, usual + Duration::from_millis(5)),
+        ),
+        _ => Kill::Writing(
+            share(dice, Duration::from_millis(1)),
+            usual * 2 + Duration::from_millis(50),
+        ),
     }
 }
