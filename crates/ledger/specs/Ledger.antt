@@ -23,9 +23,11 @@ use Rattle.ledger.specs.Numbers.{kept}
 
 -- ---- the session that numbers say
 
+-- number i, 0 behind the last
 abbrev pub keptAt : List ℤ → ℕ → ℤ
 keptAt numbers i = getD numbers i (pos 0)
 
+-- a number that the session keeps without a sign
 abbrev pub countKept : List ℤ → ℕ → ℕ
 countKept numbers i = notNegative (keptAt numbers i)
 
@@ -106,6 +108,7 @@ noSession = begun freshHeader
 unfoldable pub sessionSaid : List ℤ → Session
 sessionSaid numbers = cond (isSession numbers) (sessionKept numbers) noSession
 
+-- what `dem_is_sound` and `dem_is_complete` tell: an unsound session is not complete
 abbrev pub soundSaid : List ℤ → Bool
 soundSaid numbers = sound (sessionSaid numbers)
 
@@ -118,6 +121,7 @@ completeSaid numbers = soundSaid numbers and complete (sessionSaid numbers)
 abbrev pub deliveredTo : List ℤ → ℕ → List ℕ → List ℤ → Delivered
 deliveredTo numbers number block grid = deliverOf (sessionSaid numbers) number block (lend grid)
 
+-- and the grid it leaves
 abbrev pub gridLeft : List ℤ → ℕ → List ℕ → List ℤ → List ℤ
 gridLeft numbers number block grid = lentAfter (sessionSaid numbers) number block (lend grid) .grid
 
@@ -133,11 +137,14 @@ numbersLeft numbers number block grid =
 
 -- ---- a fresh one, and the lister's lines
 
+-- 12 where there are too few numbers
 abbrev pub openKind : List ℤ → ℕ
 openKind numbers = cond (leb 37 (length numbers)) 0 12
 
+-- the lines of a complete session, no text of any other
 abbrev pub reportSaid : List ℤ → List ℕ
 reportSaid numbers = cond (completeSaid numbers) (reportText (sessionSaid numbers)) []
 
+-- a session put into a slice that has room for it; any other stays as it was
 abbrev pub openedWith : Session → List ℤ → List ℤ
 openedWith s numbers = cond (leb 37 (length numbers)) (kept s numbers) numbers
