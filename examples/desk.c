@@ -85,8 +85,29 @@ static int same_session(const int64_t *session, const uint8_t *record_a)
         9 * UNIT, 12 * UNIT, 0, 30 * UNIT, 30 * UNIT, 1 * UNIT, 2, /* extremes, accuracy, spacings, profiles */
         3, 2, 5, 4, 900, 1200, 0, 0,                               /* taken, closed, posts, filled, low, high, column, finished */
         0, 0, 0, 0, 0, 0, 0, 0, 0,                                 /* no open profile */
+        1000 + 1200 + 1100 + 900,                                  /* sum */
     };
     return memcmp(session, numbers, sizeof numbers) == 0 && session[DEM_SESSION] == 7;
+}
+
+/* The mean level, made by the desk itself: in hundredths, and cut towards zero, for how it is rounded is the desk's own affair. Where
+ * nothing is filled there is none, which is no fault of the session. */
+static int has_mean(const int64_t *session, int64_t *mean)
+{
+    if (session[DEM_FILLED] == 0)
+        return 0;
+    *mean = session[DEM_SUM] / session[DEM_FILLED];
+    return 1;
+}
+
+/* What the desk shows after a block, without a walk over the grid. The paper's ground is above zero, so no sign is to be written. */
+static void show_mean(const int64_t *session, int64_t filled, int64_t sum, int64_t mean)
+{
+    char what[80];
+    int64_t found = 0;
+    int good = has_mean(session, &found) && found == mean && session[DEM_FILLED] == filled && session[DEM_SUM] == sum;
+    snprintf(what, sizeof what, "mean level %" PRId64 ".%02" PRId64 " of %" PRId64 " cells", found / 100, found % 100, session[DEM_FILLED]);
+    expect(good, what);
 }
 
 static int same_report(const int64_t *session)
@@ -111,21 +132,34 @@ static void take(struct desk desk, uint8_t *blocks[BLOCKS])
     expect(desk.grid[0] == 7 && desk.grid[CELLS] == 7, "the grid is as it was lent");
     deliver(desk, 0, blocks[0], BLOCK, 0, 0, 0);
     expect(desk.grid[0] == DEM_VOID && desk.grid[CELLS - 1] == DEM_VOID && desk.grid[CELLS] == 7, "the sheet's cells are void, and no more");
+    int64_t mean;
+    expect(!has_mean(desk.session, &mean) && desk.session[DEM_SUM] == 0, "no mean yet");
     uint8_t kept = blocks[1][149];
     blocks[1][149] = '\t'; /* the last byte of the first post */
     deliver(desk, 1, blocks[1], BLOCK, 6, 1, 145);
     blocks[1][149] = kept;
     deliver(desk, 1, blocks[1], BLOCK, 0, 0, 0);
+    show_mean(desk.session, 2, 1000 + 1200, 1100);
     deliver(desk, 1, blocks[1], BLOCK, DEM_HELD, 0, 0);
+    show_mean(desk.session, 2, 1000 + 1200, 1100);
     expect(dem_is_complete(desk.session, DEM_SESSION) == 0, "not complete");
     deliver(desk, 2, blocks[2], BLOCK, 0, 0, 0);
+    show_mean(desk.session, 4, 4200, 1050);
     deliver(desk, 3, blocks[2], BLOCK, 4, 3, 0);
     expect(dem_is_sound(desk.session, DEM_SESSION) == 1 && dem_is_complete(desk.session, DEM_SESSION) == 1, "sound and complete");
 }
 
-/* A number where the session keeps an unsigned one must not be negative. */
+/* A number where the session keeps an unsigned one must not be negative, and no sum is further from zero than its cells can bring it. */
 static void unsound(struct desk desk, const uint8_t *block)
 {
+    int64_t sum = desk.session[DEM_SUM], furthest = desk.session[DEM_FILLED] * 4276700;
+    desk.session[DEM_SUM] = -furthest;
+    expect(dem_is_sound(desk.session, DEM_SESSION) == 1, "a sum as far below zero as four cells go: sound");
+    desk.session[DEM_SUM] = furthest + 1;
+    expect(dem_is_sound(desk.session, DEM_SESSION) == 0, "one that goes too far: unsound");
+    desk.session[DEM_SUM] = INT64_MIN;
+    expect(dem_is_sound(desk.session, DEM_SESSION) == 0, "and so is the least number there is");
+    desk.session[DEM_SUM] = sum;
     int64_t taken = desk.session[DEM_TAKEN];
     desk.session[DEM_TAKEN] = -1;
     expect(dem_is_sound(desk.session, DEM_SESSION) == 0 && dem_is_complete(desk.session, DEM_SESSION) == 0, "taken -1: unsound");

@@ -59,11 +59,17 @@ uint64_t dem_rows(const uint8_t *block, size_t length);
  *   26  first profile's column; 1 once a record C is taken
  *   28  the open profile: posts, row, datum (hundredths), stated least and greatest (billionths), posts read, cells filled, running least
  *       and greatest (hundredths)
- * Corners, extremes and datum may be negative; a negative number elsewhere, or too few numbers, is an unsound session (2).
+ *   37  sum of the filled cells                   (hundredths)
+ * Corners, extremes, datum and sum may be negative; a negative number elsewhere, or too few numbers, is an unsound session (2).
+ *
+ * The sum is exact and grows with the count of filled cells, block by block, also inside a profile. One further from zero than that count
+ * x 4,276,700 is an unsound session too. A mean is the caller's own: sum / filled, where any are filled.
  *
  * The grid: cell = column x rows + row, from the south-western one; hundredths of the vertical unit. */
-#define DEM_SESSION 37         /* numbers of a session */
+#define DEM_SESSION 38         /* numbers of a session */
 #define DEM_TAKEN 20           /* where the blocks taken stand: the number of the block that is due */
+#define DEM_FILLED 23          /* where the cells filled stand */
+#define DEM_SUM 37             /* where their sum stands */
 #define DEM_VOID (-2147483647 - 1) /* a void cell */
 
 /* Results. 0: taken, or done. Else a kind:

@@ -4,6 +4,7 @@
 pub mod alter;
 pub mod blocks;
 pub mod sessions;
+pub mod sums;
 
 use crate::desk::Delivery;
 use crate::dice::Dice;
@@ -11,6 +12,7 @@ use crate::kept::{self, Kept, DONE, NUMBERS};
 use crate::meaning::VOID_CELL;
 use crate::record_a::{self, Header, MOST};
 use crate::sheets::aimed::damaged_profile_block;
+use crate::sheets::posts::OUTERMOST;
 use crate::sheets::{head, Sent};
 
 /// A grid is made as long as its session asks for up to here; a longer one stays short.
@@ -42,6 +44,10 @@ pub const FAMILIES: &[Family] = &[
     Family {
         name: "several numbers altered",
         make: several_numbers_altered,
+    },
+    Family {
+        name: "sums at their limits",
+        make: sums::at_their_limits,
     },
     Family {
         name: "lattices at their limits",
@@ -273,7 +279,7 @@ fn any_numbers(dice: &mut Dice, visit: &mut Visit) {
     for _ in 0..4_000 {
         let mut kept = sessions::any(dice);
         let (mut delivery, _) = awaited(dice, &mut kept);
-        let &(first, last) = dice.pick(&[(0, 36), (0, 19), (20, 27), (28, 36), (20, 36)]);
+        let &(first, last) = dice.pick(&[(0, 37), (0, 19), (20, 27), (28, 36), (20, 37)]);
         for number in &mut delivery.numbers[first..=last] {
             let (any, small) = (dice.roll() as i64, dice.between(0, 3000));
             *number = *dice.pick(&[any, small, small, 0, 1]);
@@ -284,7 +290,8 @@ fn any_numbers(dice: &mut Dice, visit: &mut Visit) {
 }
 
 /// 2048 columns of 2048 rows, all of its grid lent: block 0, the last profile's first
-/// block, its last one, and one for which a cell is wanting.
+/// block, its last one, and one for which a cell is wanting; and the last block of the
+/// highest and of the deepest ground there can be.
 fn the_largest_sheet(dice: &mut Dice, visit: &mut Visit) {
     let head = head::head(dice, MOST, MOST);
     let mut fresh = Kept::fresh();
@@ -296,6 +303,9 @@ fn the_largest_sheet(dice: &mut Dice, visit: &mut Visit) {
         let mut delivery = to_the_last_profile(dice, &head.numbers, inside);
         delivery.grid.truncate(head.cells() - missing);
         visit(plain(delivery));
+    }
+    for (post, datum) in OUTERMOST {
+        visit(plain(sums::furthest(dice, &head.numbers, post, datum)));
     }
 }
 

@@ -1,4 +1,4 @@
-//! A session as the desk keeps it: 37 numbers, handed in and back with every call (DESIGN,
+//! A session as the desk keeps it: 38 numbers, handed in and back with every call (DESIGN,
 //! "The desk in C"). Which numbers are sound, and what one delivery makes of them, stand
 //! here a second time; load.rs knows only blocks, so the two can be held together.
 
@@ -15,7 +15,7 @@ use crate::record_a::{self, Header};
 use crate::record_c;
 
 /// How many numbers a session has.
-pub const NUMBERS: usize = 37;
+pub const NUMBERS: usize = 38;
 pub const NAMES: [&str; NUMBERS] = [
     "level",
     "system",
@@ -54,7 +54,18 @@ pub const NAMES: [&str; NUMBERS] = [
     "open filled",
     "open low",
     "open high",
+    "sum",
 ];
+
+/// Where some of them stand.
+pub mod place {
+    pub const TAKEN: usize = 20;
+    pub const FILLED: usize = 23;
+    pub const FINISHED: usize = 27;
+    pub const OPEN_POSTS: usize = 28;
+    pub const SUM: usize = 37;
+}
+
 /// The result of a delivery that is held; taken and done are 0.
 pub const HELD: u32 = 255;
 pub const DONE: u32 = 0;
@@ -93,6 +104,8 @@ pub struct Kept {
     /// 1 once a record C is taken.
     pub finished: i64,
     pub open: Open,
+    /// Of all filled cells, in hundredths, exact. A profile keeps none of its own.
+    pub sum: i64,
 }
 
 /// What a delivery gives back beside session and grid.
@@ -104,7 +117,7 @@ pub struct Told {
 }
 
 impl Kept {
-    /// The session that the first 37 numbers say.
+    /// The session that the first 38 numbers say.
     pub fn of(numbers: &[i64]) -> Kept {
         let running = |first: usize| Running {
             filled: numbers[first],
@@ -128,6 +141,7 @@ impl Kept {
                 read: numbers[33],
                 running: running(34),
             },
+            sum: numbers[37],
         }
     }
 
@@ -153,6 +167,7 @@ impl Kept {
             column: first.map_or(0, |first| first.column),
             finished: i64::from(sheet.statistics_read),
             open: last.map_or(Open::default(), |last| opened(sheet, last)),
+            sum: figures.sum,
         }
     }
 
@@ -178,6 +193,7 @@ impl Kept {
             open.running.filled,
             open.running.low,
             open.running.high,
+            self.sum,
         ]);
         numbers
     }
@@ -216,6 +232,7 @@ impl Kept {
             filled: self.running.filled as usize,
             least,
             greatest,
+            sum: self.sum,
         };
         self.complete()
             .then(|| lister::lines(&self.header, &figures, self.taken as usize))
@@ -305,7 +322,7 @@ impl Running {
     }
 }
 
-/// The session that lent numbers say, if it is sound. Numbers past the 37th are not
+/// The session that lent numbers say, if it is sound. Numbers past the 38th are not
 /// looked at.
 pub fn sound(numbers: &[i64]) -> Option<Kept> {
     clauses::broken(numbers)
@@ -424,7 +441,8 @@ impl Kept {
     }
 
     /// The posts of one block, which the open profile's and the sheet's numbers count both
-    /// (READINGS 27).
+    /// (READINGS 27). The sum grows with them, block by block, and never looks at the grid
+    /// (READINGS-02, 1.1, 1.6).
     fn read_on(&mut self, posts: &[i64], grid: &mut [i32]) -> Result<(), Refusal> {
         let datum = self.open.datum * HUNDREDTH;
         let of_post = |&post: &i64| elevation(post, self.header.z_spacing, datum);
@@ -436,6 +454,7 @@ impl Kept {
         self.open.read += posts.len() as i64;
         self.running.add(&filled);
         self.open.running.add(&filled);
+        self.sum += filled.iter().sum::<i64>();
         if self.open.read == self.open.posts {
             self.close()?;
         }

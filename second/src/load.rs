@@ -3,7 +3,7 @@
 
 use crate::block::{Record, BLOCK_LENGTH};
 use crate::kind::{GRID_TOO_SHORT, SHEET_COMPLETE, TOO_EARLY, WRONG_LENGTH};
-use crate::meaning::{self, Block, Figures, Refusal, Sheet};
+use crate::meaning::{self, sum_of_cells, Block, Figures, Refusal, Sheet};
 
 #[derive(Clone, Debug, Default, PartialEq)]
 pub struct Session {
@@ -37,6 +37,13 @@ impl Session {
     pub fn figures(&self) -> Figures {
         let sheet = self.sheet();
         sheet.map_or(Figures::default(), |sheet| sheet.figures())
+    }
+
+    /// What request 1 of document 02 holds the session's sum against: the sum over the
+    /// filled cells of the sheet in the grid lent for it, cells past the sheet left out.
+    pub fn sum_in(&self, grid: &[i32]) -> i64 {
+        let sheet = self.sheet();
+        sheet.map_or(0, |sheet| sum_of_cells(&grid[..sheet.header.cells()]))
     }
 
     pub fn awaits(&self) -> Option<Record> {

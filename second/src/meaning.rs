@@ -37,7 +37,8 @@ pub struct Sheet {
     pub blocks: usize,
 }
 
-/// Counts and extremes of the posts read, an open profile's included (READINGS 20, 27).
+/// Counts, extremes and sum of the posts read, an open profile's included (READINGS 20, 27;
+/// READINGS-02, 1.1).
 #[derive(Clone, Copy, Debug, Default, PartialEq)]
 pub struct Figures {
     pub closed: usize,
@@ -46,6 +47,8 @@ pub struct Figures {
     /// In hundredths; zero while nothing is filled.
     pub least: i64,
     pub greatest: i64,
+    /// Of the filled posts' elevations, in hundredths, exact.
+    pub sum: i64,
 }
 
 /// Reads a text of one block or more, up to its end or that of the sheet.
@@ -154,12 +157,14 @@ impl Sheet {
 
     pub fn figures(&self) -> Figures {
         let (least, greatest) = self.extremes_of(&self.profiles);
+        let filled = self.filled_elevations(&self.profiles);
         Figures {
             closed: self.closed(),
             posts: self.profiles.iter().map(|one| one.posts.len()).sum(),
-            filled: self.filled_elevations(&self.profiles).len(),
+            filled: filled.len(),
             least,
             greatest,
+            sum: filled.iter().sum(),
         }
     }
 
@@ -178,6 +183,12 @@ impl Sheet {
         }
         cells
     }
+}
+
+/// The sum over those of these cells that are filled.
+pub fn sum_of_cells(cells: &[i32]) -> i64 {
+    let filled = cells.iter().filter(|&&cell| cell != VOID_CELL);
+    filled.map(|&cell| i64::from(cell)).sum()
 }
 
 /// Stated billionths against worked-out hundredths, exactly.

@@ -1,5 +1,6 @@
 //! Whole sheets sent to the desk block by block over a poor line. After each delivery the
-//! session's numbers and the grid must be what the blocks taken mean, read as one text.
+//! session's numbers and the grid must be what the blocks taken mean, read as one text, and
+//! the sum of the text's filled posts that of the sheet's filled cells in the grid.
 
 use crate::desk::{Delivery, Left};
 use crate::dice::Dice;
@@ -88,6 +89,8 @@ impl Press {
             room: dice.size(0, 4),
         };
         let answer = deliver(&mut self.taken, number, block, &mut self.grid);
+        let cells = self.taken.sum_in(&self.grid);
+        assert_eq!(self.taken.figures().sum, cells, "after {number}");
         let left = Left {
             told: told(answer),
             numbers: self.numbers(),
@@ -104,7 +107,7 @@ impl Press {
 }
 
 /// Taken and held come with zeros.
-fn told(answer: Answer) -> Told {
+pub fn told(answer: Answer) -> Told {
     let plain = |result: u32| Told {
         result,
         block: 0,

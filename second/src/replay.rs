@@ -3,6 +3,7 @@
 
 use crate::block::{Record, USUAL_CELLS};
 use crate::load::{deliver, Answer, Session};
+use crate::meaning::Figures;
 use std::fmt::Write;
 
 pub const MOST_CELLS: u32 = USUAL_CELLS as u32;
@@ -61,20 +62,27 @@ pub struct Event {
 pub struct Outcome {
     pub output: String,
     pub events: Vec<Event>,
-    pub bad: bool,
+    /// What the session line says; None where the script is bad.
+    pub figures: Option<Figures>,
+}
+
+impl Outcome {
+    pub fn bad(&self) -> bool {
+        self.figures.is_none()
+    }
 }
 
 pub fn run(script: &[u8]) -> Outcome {
     let mut outcome = Outcome::default();
-    if run_deliveries(script, &mut outcome).is_none() {
-        outcome.bad = true;
+    outcome.figures = run_deliveries(script, &mut outcome);
+    if outcome.bad() {
         outcome.output.push_str("bad script\n");
     }
     outcome
 }
 
 /// None where the script is bad: it ends too soon, or names too many cells or bytes.
-fn run_deliveries(mut rest: &[u8], outcome: &mut Outcome) -> Option<()> {
+fn run_deliveries(mut rest: &[u8], outcome: &mut Outcome) -> Option<Figures> {
     let cells = take_figure(&mut rest, MOST_CELLS)?;
     let mut grid = vec![CELL_AT_START; cells as usize];
     let mut session = Session::fresh();
@@ -88,8 +96,11 @@ fn run_deliveries(mut rest: &[u8], outcome: &mut Outcome) -> Option<()> {
         outcome.events.push(Event { awaited, answer });
         outcome.output.push_str(&line_of(answer));
     }
-    write_end(&mut outcome.output, &session, &grid);
-    Some(())
+    let figures = session.figures();
+    // A script lends one grid and nobody else touches it: demand 3's premise.
+    assert_eq!(session.sum_in(&grid), figures.sum);
+    write_end(&mut outcome.output, session.taken(), &figures, &grid);
+    Some(figures)
 }
 
 fn take_bytes<'a>(rest: &mut &'a [u8], count: usize) -> Option<&'a [u8]> {
@@ -112,17 +123,17 @@ fn line_of(answer: Answer) -> String {
     }
 }
 
-fn write_end(output: &mut String, session: &Session, grid: &[i32]) {
-    let figures = session.figures();
+fn write_end(output: &mut String, taken: usize, figures: &Figures, grid: &[i32]) {
     let written = writeln!(
         output,
-        "session {} {} {} {} {} {}\ncells {}",
-        session.taken(),
+        "session {} {} {} {} {} {} {}\ncells {}",
+        taken,
         figures.closed,
         figures.posts,
         figures.filled,
         figures.least,
         figures.greatest,
+        figures.sum,
         grid.len()
     );
     written.expect("a text in memory takes every line");

@@ -5,6 +5,7 @@ pub mod accident;
 mod closing;
 mod damaged;
 mod grids;
+mod heights;
 mod line;
 mod malformed;
 mod poor_line;
@@ -49,12 +50,13 @@ pub const FAMILIES: &[Family] = &[
         5,
         Whole(line::whole_sheet_of_long_profiles),
     ),
-    Family::of("poor line", 17, BreaksOff(poor_line::small_sheet)),
+    Family::of("poor line", 15, BreaksOff(poor_line::small_sheet)),
     Family::of(
         "poor line, long profiles",
         8,
         BreaksOff(poor_line::long_profiles),
     ),
+    Family::of("heights far from zero", 4, BreaksOff(heights::far)),
     Family::of("two sheets mixed up", 3, BreaksOff(poor_line::two_sheets)),
     Family::of(
         accident::THE_CUSTOMERS_ACCIDENT,
@@ -64,7 +66,7 @@ pub const FAMILIES: &[Family] = &[
     Family::of("record A damaged, corrected", 8, BreaksOff(damaged::header)),
     Family::of(
         "profiles damaged, corrected",
-        16,
+        14,
         BreaksOff(damaged::profiles),
     ),
     Family::of(

@@ -29,8 +29,21 @@ fn a_state_is_read_back() {
     for taken in 0..=sheet.text.len() {
         let state = State::of(&sheet.text[..taken]);
         assert_eq!(state.taken(), taken);
+        assert!(state.sum_is_that_of_the_cells());
         assert_eq!(State::read(&state.bytes()), Some(state));
     }
+}
+
+/// One written before sessions kept a sum says that it has a number fewer.
+#[test]
+fn a_state_of_37_numbers_is_none_of_ours() {
+    let sheet = small_sheet(&mut Dice::new(7));
+    let state = State::of(&sheet.text);
+    assert_eq!(state.bytes()[8..12], [0, 0, 0, 38]);
+    let numbers = state.numbers[..37].to_vec();
+    let older = State { numbers, ..state }.bytes();
+    assert_eq!(older[8..12], [0, 0, 0, 37]);
+    assert_eq!(State::read(&older), None);
 }
 
 #[test]

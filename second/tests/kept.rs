@@ -3,45 +3,21 @@
 
 mod common;
 
-use common::{demand_all_seen, paper_blocks, put, statistics, PAPER_CELLS, VOID};
+use common::{
+    demand_all_seen, numbers_after, paper_blocks, place, put, statistics, told, with, PAPER_CELLS,
+    VOID,
+};
 use second::block::{HUNDREDTH, UNIT};
 use second::crafted::{self, sessions};
 use second::dice::Dice;
 use second::kept::clauses::{broken, is_real, CLAUSES, NEGATIVE, TOO_FEW};
-use second::kept::{blocks_of, deliver, sound, Kept, Told, DONE, HELD, NAMES, NUMBERS};
+use second::kept::{blocks_of, deliver, sound, Kept, Told, DONE, HELD, NUMBERS};
 use second::presses;
 use std::collections::BTreeSet;
 
-fn told(result: u32, block: u32, byte: u32) -> Told {
-    Told {
-        result,
-        block,
-        byte,
-    }
-}
-
 /// The numbers after the first blocks of the paper's sheet, and the grid.
 fn after(taken: usize) -> (Vec<i64>, Vec<i32>) {
-    let (mut numbers, mut grid) = (vec![0; NUMBERS], vec![7; 8]);
-    for (number, block) in paper_blocks()[..taken].iter().enumerate() {
-        let answer = deliver(&mut numbers, number as u32, block, &mut grid);
-        assert_eq!(answer, told(DONE, 0, 0));
-    }
-    (numbers, grid)
-}
-
-/// The place of a number by its name.
-fn place(name: &str) -> usize {
-    let found = NAMES.iter().position(|&known| known == name);
-    found.expect("a number of a session")
-}
-
-fn with(numbers: &[i64], changes: &[(&str, i64)]) -> Vec<i64> {
-    let mut changed = numbers.to_vec();
-    for &(name, value) in changes {
-        changed[place(name)] = value;
-    }
-    changed
+    numbers_after(&paper_blocks()[..taken], 8)
 }
 
 #[test]
@@ -54,17 +30,18 @@ fn numbers_of_the_papers_sheet() {
         &[9 * UNIT, 12 * UNIT, 0, 30 * UNIT, 30 * UNIT, UNIT, 2],
     ];
     let header = header.concat();
-    // Taken, closed, posts, filled, low, high.
+    // Taken, closed, posts, filled, low, high; the sum.
     let counts = [
-        [1, 0, 0, 0, 0, 0],
-        [2, 1, 3, 2, 1000, 1200],
-        [3, 2, 5, 4, 900, 1200],
+        ([1, 0, 0, 0, 0, 0], 0),
+        ([2, 1, 3, 2, 1000, 1200], 2200),
+        ([3, 2, 5, 4, 900, 1200], 4200),
     ];
-    for (before, counts) in counts.iter().enumerate() {
+    for (before, (counts, sum)) in counts.iter().enumerate() {
         let (numbers, _) = after(before + 1);
         assert_eq!(numbers[..20], header);
         assert_eq!(numbers[20..26], *counts);
-        assert_eq!(numbers[26..], [0; 11]);
+        assert_eq!(numbers[26..37], [0; 11]);
+        assert_eq!(numbers[37..], [*sum]);
     }
     assert_eq!(after(3).1, [&PAPER_CELLS[..], &[7, 7]].concat());
 }
@@ -78,7 +55,7 @@ fn the_papers_report() {
         assert_eq!(report(&after(taken).0), None);
     }
     // Extremes of nothing are zeros, whatever stands there.
-    let void = with(&after(3).0, &[("filled", 0), ("low", -5)]);
+    let void = with(&after(3).0, &[("filled", 0), ("low", -5), ("sum", 0)]);
     let lines = report(&void).expect("complete");
     assert!(lines.contains("posts 5 void 5\nrange 0.00 0.00\n"));
 }
@@ -116,7 +93,7 @@ fn unsound_comes_after_the_length_and_before_all_else() {
     let unsound = with(&after(1).0, &[("taken", 3)]);
     let block = &paper_blocks()[1];
     for number in [0, 1, 2, 3, u32::MAX] {
-        for numbers in [&unsound[..], &unsound[..36], &[]] {
+        for numbers in [&unsound[..], &unsound[..37], &[]] {
             let mut numbers = numbers.to_vec();
             let before = numbers.clone();
             let answer = deliver(&mut numbers, number, block, &mut []);
@@ -209,8 +186,8 @@ fn a_profile_is_named_by_its_first_block() {
     assert_eq!(deliver(&mut right, 3, &block, &mut grid).result, DONE);
     assert_eq!(grid[400 + 146], 500);
     let changes = [("taken", 4), ("closed", 2), ("posts", 148), ("filled", 3)];
-    let mut expected = with(&with(&numbers, &changes), &[("high", 500)]);
-    expected[28..].fill(0);
+    let mut expected = with(&with(&numbers, &changes), &[("high", 500), ("sum", 500)]);
+    expected[28..37].fill(0);
     assert_eq!(right, expected);
 }
 
@@ -243,7 +220,7 @@ fn both_sides_of_the_clauses_on_counts() {
         assert_eq!(broken(&with(numbers, &[(name, good)])), [""; 0], "{name}");
         assert!(!broken(&with(numbers, &[(name, bad)])).is_empty(), "{name}");
     }
-    assert_eq!(broken(&open[..36]), [TOO_FEW]);
+    assert_eq!(broken(&open[..37]), [TOO_FEW]);
     for name in ["column", "open row", "open filled", "finished"] {
         assert_eq!(broken(&with(&after(1).0, &[(name, -1)])), [NEGATIVE]);
     }
@@ -330,7 +307,8 @@ fn a_delivery_leaves_a_sound_session_sound() {
     demand_all_seen(all, &seen);
 }
 
-/// Numbers stepped from block to block, and numbers read off the joined text.
+/// Numbers stepped from block to block, and numbers read off the joined text; the sum of
+/// the sheet's cells too is held against the text's on the way.
 #[test]
 fn steps_lead_to_what_the_blocks_mean() {
     let mut deliveries = 0;

@@ -4,8 +4,8 @@
 mod common;
 
 use common::{
-    after, block_of, blocks_before_statistics, demand_the_papers_sheet, paper_blocks, paper_header,
-    put, statistics, PAPER_CELLS, PROFILES,
+    after, blocks_before_statistics, column_blocks, column_header, demand_the_papers_sheet,
+    paper_blocks, paper_header, put, statistics, PAPER_CELLS, PROFILES,
 };
 use second::block::{HUNDREDTH, UNIT};
 use second::dice::Dice;
@@ -256,41 +256,11 @@ fn edge_example_of_a_post() {
     assert_eq!(elevation(-1, HUNDREDTH, 0), Some(-1));
 }
 
-/// The blocks of one profile of `posts` posts, all of them 5.
-fn blocks_of_profile(posts: usize) -> Vec<Vec<u8>> {
-    let mut blocks = vec![block_of(&[
-        (1, "     1     1"),
-        (13, &format!("{posts:6}     1")),
-        (25, "0"),
-        (49, "0"),
-        (73, "0"),
-        (97, "5"),
-        (121, "5"),
-    ])];
-    let (mut byte, mut left) = (145, posts);
-    while left > 0 {
-        if byte == 1021 {
-            blocks.push(vec![b' '; 1024]);
-            byte = 1;
-        }
-        put(blocks.last_mut().expect("never empty"), byte, "     5");
-        byte += 6;
-        left -= 1;
-    }
-    blocks
-}
-
 #[test]
 fn blocks_of_profiles_of_every_length() {
-    let mut header = paper_header();
-    for (place, corner) in [0, 0, 0, 2047, 1, 2047, 1, 0].iter().enumerate() {
-        put(&mut header, 547 + place * 24, &format!("{corner:24}"));
-    }
-    put(&mut header, 739, &format!("{:24}{:24}", 5, 5));
-    put(&mut header, 829, "         1.0");
-    put(&mut header, 859, "     1");
+    let header = column_header(500, 500);
     for (posts, count) in PROFILES {
-        let blocks = blocks_of_profile(posts);
+        let blocks = column_blocks(&vec![5; posts], 0, 500, 500);
         assert_eq!(blocks.len(), count);
         let (mut session, mut grid) = after(&[&header], 2048);
         for (place, block) in blocks.iter().enumerate() {
@@ -301,6 +271,7 @@ fn blocks_of_profiles_of_every_length() {
             );
             let read = if place == 0 { 146 } else { 146 + 170 * place };
             assert_eq!(session.figures().posts, read.min(posts));
+            assert_eq!(session.figures().sum, 500 * read.min(posts) as i64);
             assert_eq!(session.figures().closed, usize::from(place + 1 == count));
         }
         assert!(grid[..posts].iter().all(|&cell| cell == 500));

@@ -7,7 +7,7 @@ use common::demand_the_same_again;
 use second::block::{HUNDREDTH, UNIT};
 use second::dice::Dice;
 use second::load::{deliver, Answer, Session};
-use second::meaning::VOID_CELL;
+use second::meaning::{sum_of_cells, VOID_CELL};
 use second::number;
 use second::record_a;
 use second::replay;
@@ -70,6 +70,17 @@ fn cells_of(plan: &Plan) -> Vec<i32> {
     cells
 }
 
+/// The sum of the heights a plan stands for: scaled and moved by the datum all at once.
+fn sum_of(plan: &Plan) -> i64 {
+    let step = plan.head.numbers.z_spacing / HUNDREDTH;
+    let mut sum = 0;
+    for run in &plan.runs {
+        let filled: Vec<i64> = run.posts.iter().copied().filter(|&p| p != -32767).collect();
+        sum += step * filled.iter().sum::<i64>() + run.datum * filled.len() as i64;
+    }
+    sum
+}
+
 fn load_whole(dice: &mut Dice, plan: &Plan) {
     let (mut session, mut grid) = (Session::fresh(), vec![7; plan.cells() + 1]);
     for (number, block) in plan.blocks(dice).iter().enumerate() {
@@ -82,6 +93,8 @@ fn load_whole(dice: &mut Dice, plan: &Plan) {
     assert_eq!(grid, cells_of(plan));
     let filled = grid.iter().filter(|&&cell| cell != VOID_CELL).count();
     assert_eq!(session.figures().filled, filled);
+    assert_eq!(session.figures().sum, sum_of(plan));
+    assert_eq!(sum_of_cells(&grid), sum_of(plan));
     let posts: usize = plan.runs.iter().map(|run| run.posts.len()).sum();
     assert_eq!(session.figures().posts, posts);
 }

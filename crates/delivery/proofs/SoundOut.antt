@@ -2,12 +2,13 @@
 use mathlib.Core.Bool.{true, false, Bool, cond, not}
 use mathlib.Core.List.{List}
 use mathlib.Core.Path.{_≡_, sym, _∙_, refl}
-use Prim.Native.Nat.{ℕ, _+_, _-_, _/_, _%_, _^_, _≤_, _<_, min}
+use Prim.Native.Nat.{ℕ, _+_, _-_, _*_, _/_, _%_, _^_, _≤_, _<_, min}
 use native.Mathlib.Omega.{arith}
-use lib.IntN.{ℤ, natAbs}
+use lib.IntN.{ℤ, natAbs, _+ℤ_}
 use lib.ListN.{length, getD}
 use borrow.Author.Tests.{ne-eqb, eqb-true, eqb-false, ltb-true, ltb-false, eq-eqb}
 use lib.Dec.{eqb, ltb}
+use Rattle.laws.proofs.Integers.{size-sum}
 use Rattle.laws.proofs.Tests.{clash, by-test}
 use Rattle.frame.specs.declared.Header.{Header}
 use Rattle.frame.specs.Frame.{columnsOf, rowsOf, zOf}
@@ -29,8 +30,10 @@ use Rattle.session.specs.declared.Profile.{Profile}
 use Rattle.session.proofs.Facts.{facts-begun, Begun, Running, begun-facts}
 use Rattle.session.proofs.Sound.{begun-sound, sound-begun as session-begun, taken-bound, posts-bound}
 use Rattle.ground.specs.Posts.{void, tallyAll, postsFault, postsRestFault, postsOf}
+use Rattle.ground.specs.Extremes.{filledOnly, sumOf}
 use Rattle.ground.specs.declared.Tally.{Tally}
 use Rattle.ground.proofs.Tallies.{InOrder, Fair, tally-filled, filled-within}
+use Rattle.ground.proofs.Weights.{sum-bound}
 use Rattle.ground.proofs.Heights.{Cell, heights-length, heights-cells}
 use Rattle.ground.proofs.PostsRead.{posts-length, posts-in-range, scan-fair}
 use Rattle.delivery.specs.Deliver.{Lent, Room, roomOf, tooShort, finishedSession, profileTally, sheetTally, closedSession, filledSession, heightsHere, postsHere, columnFits, columnPlace, firstColumn, opened, rowFits, rowPlace, Verdict, again, wrong, begins, fills, answerOf, beginning, closeFault, filling, further, later, opening, verdictOf, deliverOf}
@@ -60,6 +63,7 @@ sound-begun block h e =
       taken-most = omega arith;
       extremes = λ z. absurd (omega arith);
       profile-extremes = λ b. clash (sym b);
+      sum = omega arith;
     }))
 
 -- ---- record C
@@ -86,6 +90,7 @@ sound-finished s f idle all one none =
       taken-most = omega (arith, f .taken-most);
       extremes = f .extremes;
       profile-extremes = f .profile-extremes;
+      sum = f .sum;
     }))
 
 -- ---- a block of a profile
@@ -126,6 +131,10 @@ module _ (s : Session) (column : ℕ) (p : Profile) (hs : List ℤ) (g : Grows s
 
   profile-few : tallyAll (profileTally p) hs .filled ≤ p .read + length hs
   profile-few = omega (arith, tally-filled (profileTally p) hs, filled-within hs, g .filled)
+
+  sum-few : natAbs (s .sum +ℤ sumOf (filledOnly hs)) ≤ tallyAll (sheetTally s) hs .filled * 4276700
+  sum-few =
+      omega (arith, size-sum (s .sum) (sumOf (filledOnly hs)), sum-bound hs (g .cells), g .facts .sum, tally-filled (sheetTally s) hs)
 
   unfinished : s .finished ≡ 1 → ⊥
   unfinished e = omega (arith, g .facts .finish e .1, g .below)
@@ -169,6 +178,7 @@ module _ (s : Session) (column : ℕ) (p : Profile) (hs : List ℤ) (g : Grows s
         taken-most = omega (arith, blocks, f .taken-most, g .count more);
         extremes = λ z. running (g .sheet-fair z);
         profile-extremes = λ b z. running (g .profile-fair z);
+        sum = sum-few;
       }))
 
   pub sound-closed : p .posts ≤ p .read + length hs → sound (closedSession (filledSession s column p hs)) ≡ true
@@ -194,6 +204,7 @@ module _ (s : Session) (column : ℕ) (p : Profile) (hs : List ℤ) (g : Grows s
         taken-most = omega (arith, f .taken-most, g .blocks);
         extremes = λ z. running (g .sheet-fair z);
         profile-extremes = λ b. clash (sym b);
+        sum = sum-few;
       }))
 
 -- a block without fault has none among its posts

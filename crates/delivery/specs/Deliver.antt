@@ -1,7 +1,7 @@
 -- Document 01, "What a delivery answers": what one delivery answers, for every session, number, block and grid.
 use mathlib.Core.List.{List, [], _∷_, _++_}
 use Prim.Native.Nat.{ℕ, _^_, _+_, _-_, min, _*_}
-use lib.IntN.{ℤ, pos, _*ℤ_}
+use lib.IntN.{ℤ, pos, _+ℤ_, _*ℤ_}
 use mathlib.Core.Bool.{cond, Bool, false, not}
 use lib.Dec.{eqb, ltb, leb}
 use lib.ListN.{length, drop, replicate}
@@ -26,6 +26,7 @@ use Rattle.session.specs.declared.Profile.{Profile}
 use Rattle.session.specs.Session.{noProfile, openBlocks, busy, sound, complete, begun}
 use Rattle.ground.specs.declared.Tally.{Tally}
 use Rattle.ground.specs.Posts.{tallyAll, postsOf, heights, postsRestFault, void}
+use Rattle.ground.specs.Extremes.{filledOnly, sumOf}
 use Rattle.delivery.specs.declared.Refusal.{Refusal}
 use Rattle.delivery.specs.declared.Answer.{Answer}
 use Rattle.delivery.specs.declared.Answer.the-variants.{Taken, Held, Refused}
@@ -109,6 +110,7 @@ closedSession s =
       column = s .column;
       finished = s .finished;
       profile = noProfile;
+      sum = s .sum;
     }
 
 -- ---- a block's posts
@@ -146,6 +148,7 @@ filledSession s column p hs =
       column = column;
       finished = s .finished;
       profile = readOn p hs;
+      sum = s .sum +ℤ sumOf (filledOnly hs);
     }
 
 -- the cell of a profile's next post: "Cell = column × rows + row"
@@ -245,6 +248,7 @@ finishedSession s =
       column = s .column;
       finished = 1;
       profile = s .profile;
+      sum = s .sum;
     }
 
 -- ---- the order of a delivery's answers

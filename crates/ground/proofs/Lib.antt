@@ -1,5 +1,6 @@
 pub mod BlocksJoined
 pub mod Heights
+pub mod Weights
 pub mod Tallies
 pub mod MergedTallies
 pub mod BlockCounts

@@ -1,7 +1,7 @@
--- Document 01, "Record B" and "Writing": the extremes of filled heights.
+-- Document 01, "Record B" and "Writing": the extremes of filled heights; and 02, request 1: their sum.
 use mathlib.Core.Bool.{cond}
 use mathlib.Core.List.{List, [], _∷_}
-use lib.IntN.{ℤ, pos, _*ℤ_}
+use lib.IntN.{ℤ, pos, _+ℤ_, _*ℤ_}
 use Rattle.laws.specs.Sign.{sameZ, lesser, greater}
 use Rattle.ground.specs.Posts.{void}
 
@@ -19,6 +19,11 @@ abbrev pub greatestOf : List ℤ → ℤ
 greatestOf [] = pos 0
 greatestOf (h ∷ []) = h
 greatestOf (h ∷ (g ∷ hs)) = greater h (greatestOf (g ∷ hs))
+
+-- "the exact sum of filled elevations"
+abbrev pub sumOf : List ℤ → ℤ
+sumOf [] = pos 0
+sumOf (h ∷ hs) = h +ℤ sumOf hs
 
 -- the extremes of the filled heights, as billionths: hundredths are 10,000,000 of them
 abbrev pub leastStated : List ℤ → ℤ

@@ -114,3 +114,8 @@ size-multiple (negsuc k) s = size-minus (pos (suc k * s))
 pub size-fits : {w : Width} (z : ℤ) → natAbs z < 2 ^ hbits w → SFits w z
 size-fits (pos n) h = record { sfits = h }
 size-fits (negsuc n) h = record { sfits = omega arith }
+
+-- and no further from zero than that power where it is
+pub size-most : {w : Width} (z : ℤ) → SFits w z → natAbs z ≤ 2 ^ hbits w
+size-most (pos n) f = omega (arith, f .sfits)
+size-most (negsuc n) f = omega (arith, f .sfits)

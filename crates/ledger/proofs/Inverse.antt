@@ -12,11 +12,11 @@ use lib.ListN.{length, drop, length-append}
 use lib.Seq.{drop-cons}
 use lib.Signed.{ltZ}
 use Rattle.laws.specs.Lists.{from}
-use Rattle.laws.specs.Sign.{notNegative, _and_}
+use Rattle.laws.specs.Sign.{notNegative}
 use Rattle.laws.proofs.Tests.{by-test, clash, split, and-both}
 use Rattle.session.specs.declared.Session.{Session}
 use Rattle.session.specs.Session.{sound}
-use Rattle.ledger.specs.Numbers.{numbersOf, kept}
+use Rattle.ledger.specs.Numbers.{numbersOf, kept, sessionNumbers}
 use Rattle.ledger.specs.Ledger.{keptAt, noneNegative, run, isSession, sessionKept, sessionSaid, soundSaid}
 use Rattle.ledger.proofs.Keeping.{said-kept, said-none, none-unsound, enough-of}
 
@@ -67,19 +67,19 @@ counts-back (z ∷ zs) t =
 
 -- numbers that say a sound session are its numbers, and what stands behind them
 module _ (numbers : List ℤ) (t : isSession numbers ≡ true) where
-  many : 37 ≤ length numbers
+  many : sessionNumbers ≤ length numbers
   unfolding isSession
-  many = leb-true 37 (length numbers) (split (leb 37 (length numbers)) _ t .0)
+  many = leb-true sessionNumbers (length numbers) (split (leb sessionNumbers (length numbers)) _ t .0)
 
   -- number by number
   abbrev n : ℕ → ℤ
   n = keptAt numbers
 
   abbrev spread : List ℤ
-  spread = map n (from 0 37) ++ drop 37 numbers
+  spread = map n (from 0 sessionNumbers) ++ drop sessionNumbers numbers
 
   same : spread ≡ numbers
-  same = one-by-one numbers 0 37 many
+  same = one-by-one numbers 0 sessionNumbers many
 
   parts : (noneNegative (run 0 5 spread) ≡ true) × ((noneNegative (run 15 9 spread) ≡ true) × ((noneNegative (run 26 4 spread) ≡ true) × (noneNegative (run 33 2 spread) ≡ true)))
   parts =
@@ -102,7 +102,7 @@ module _ (numbers : List ℤ) (t : isSession numbers ≡ true) where
       ∷ (counts-back (run 15 9 spread) (parts .1 .0) j
       ++ (n 24 ∷ n 25
       ∷ (counts-back (run 26 4 spread) (parts .1 .1 .0) j
-      ++ (n 30 ∷ n 31 ∷ n 32 ∷ (counts-back (run 33 2 spread) (parts .1 .1 .1) j ++ (n 35 ∷ n 36 ∷ drop 37 numbers))))))))
+      ++ (n 30 ∷ n 31 ∷ n 32 ∷ (counts-back (run 33 2 spread) (parts .1 .1 .1) j ++ (n 35 ∷ n 36 ∷ n 37 ∷ drop sessionNumbers numbers))))))))
       ∙ same
 
 pub numbers-back : (numbers : List ℤ) → soundSaid numbers ≡ true → kept (sessionSaid numbers) numbers ≡ numbers

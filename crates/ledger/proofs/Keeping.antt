@@ -22,13 +22,14 @@ use Rattle.delivery.specs.declared.Answer.the-variants.{Taken, Held, Refused}
 use Rattle.delivery.specs.declared.Delivered.{Delivered}
 use Rattle.delivery.specs.Deliver.{Lent, deliverOf}
 use Rattle.delivery.proofs.SoundOut.{Idle, sound-out, idle-out, unsound-kept}
-use Rattle.ledger.specs.Numbers.{numbersOf}
+use Rattle.ledger.specs.Numbers.{numbersOf, numbersAdded, sessionNumbers}
 use Rattle.ledger.specs.Ledger.{noneNegative, run, isSession, sessionKept, sessionSaid, noSession}
 use Rattle.ledger.specs.Steps.{withSign, headerRow, countRow, profileRow, rowOf, Keepable}
 
--- three rows, one behind the other, are one
-pub rows-put : (s : Session) (numbers : List ℤ) → 37 ≤ length numbers
-    → sets (sets (sets numbers 0 (headerRow (s .header))) 20 (countRow s)) 28 (profileRow (s .profile)) ≡ rowOf s ++ drop 37 numbers
+-- four rows, one behind the other, are one
+pub rows-put : (s : Session) (numbers : List ℤ) → sessionNumbers ≤ length numbers
+    → sets (sets (sets (sets numbers 0 (headerRow (s .header))) 20 (countRow s)) 28 (profileRow (s .profile))) 37 (numbersAdded s)
+    ≡ rowOf s ++ drop sessionNumbers numbers
 rows-put s numbers le = sets-eq (rowOf s) numbers 0 le
 
 -- ---- counts that fit
@@ -88,6 +89,7 @@ begun-row s t b i =
     ∷ small (p .filled) (i .filled) j
     ∷ p .low
     ∷ p .high
+    ∷ s .sum
     ∷ []
 
 pub row-is : (s : Session) → sound s ≡ true → Idle s → rowOf s ≡ numbersOf s
@@ -122,7 +124,7 @@ module _ (numbers : List ℤ) (number : ℕ) (block : List ℕ) (lent : Lent) wh
   unfolding isSession
   keepable i =
       record {
-        enough = λ e. leb-true 37 (length numbers) (and-first (leb 37 (length numbers)) _ (taken-session e));
+        enough = λ e. leb-true sessionNumbers (length numbers) (and-first (leb sessionNumbers (length numbers)) _ (taken-session e));
         fits =
             λ e.
             row-is (d .session) (sound-out (sessionSaid numbers) number block lent (taken-sound e))
@@ -139,12 +141,12 @@ pub said-none : (numbers : List ℤ) → isSession numbers ≡ false → session
 unfolding sessionSaid
 said-none numbers t = rw t
 
-pub too-few : (numbers : List ℤ) → length numbers < 37 → isSession numbers ≡ false
+pub too-few : (numbers : List ℤ) → length numbers < sessionNumbers → isSession numbers ≡ false
 unfolding isSession
-too-few numbers lt = let e : leb 37 (length numbers) ≡ false = lt-leb 37 (length numbers) lt in rw e
+too-few numbers lt = let e : leb sessionNumbers (length numbers) ≡ false = lt-leb sessionNumbers (length numbers) lt in rw e
 
-pub enough-of : (numbers : List ℤ) → 37 ≤ length numbers
+pub enough-of : (numbers : List ℤ) → sessionNumbers ≤ length numbers
     → isSession numbers
     ≡ (noneNegative (run 0 5 numbers) and noneNegative (run 15 9 numbers) and noneNegative (run 26 4 numbers) and noneNegative (run 33 2 numbers))
 unfolding isSession
-enough-of numbers le = let e : leb 37 (length numbers) ≡ true = le-leb 37 (length numbers) le in rw e
+enough-of numbers le = let e : leb sessionNumbers (length numbers) ≡ true = le-leb sessionNumbers (length numbers) le in rw e

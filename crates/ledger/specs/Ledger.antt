@@ -19,7 +19,7 @@ use Rattle.delivery.specs.declared.Answer.the-variants.{Taken, Held, Refused}
 use Rattle.delivery.specs.declared.Delivered.{Delivered}
 use Rattle.delivery.specs.Deliver.{lend, deliverOf, lentAfter}
 use Rattle.lines.specs.Lines.{reportText}
-use Rattle.ledger.specs.Numbers.{kept}
+use Rattle.ledger.specs.Numbers.{kept, sessionNumbers}
 
 -- ---- the session that numbers say
 
@@ -82,6 +82,7 @@ sessionKept numbers =
       column = countKept numbers 26;
       finished = countKept numbers 27;
       profile = profileKept numbers;
+      sum = keptAt numbers 37;
     }
 
 -- ---- which numbers are a session's
@@ -98,7 +99,7 @@ run from count numbers = take count (drop from numbers)
 -- profile's row, and what is read and filled of it
 unfoldable pub isSession : List ℤ → Bool
 isSession numbers =
-    leb 37 (length numbers) and noneNegative (run 0 5 numbers) and noneNegative (run 15 9 numbers)
+    leb sessionNumbers (length numbers) and noneNegative (run 0 5 numbers) and noneNegative (run 15 9 numbers)
     and noneNegative (run 26 4 numbers) and noneNegative (run 33 2 numbers)
 
 -- a session that no clause lets pass, for numbers that are none
@@ -139,7 +140,7 @@ numbersLeft numbers number block grid =
 
 -- 12 where there are too few numbers
 abbrev pub openKind : List ℤ → ℕ
-openKind numbers = cond (leb 37 (length numbers)) 0 12
+openKind numbers = cond (leb sessionNumbers (length numbers)) 0 12
 
 -- the lines of a complete session, no text of any other
 abbrev pub reportSaid : List ℤ → List ℕ
@@ -147,4 +148,4 @@ reportSaid numbers = cond (completeSaid numbers) (reportText (sessionSaid number
 
 -- a session put into a slice that has room for it; any other stays as it was
 abbrev pub openedWith : Session → List ℤ → List ℤ
-openedWith s numbers = cond (leb 37 (length numbers)) (kept s numbers) numbers
+openedWith s numbers = cond (leb sessionNumbers (length numbers)) (kept s numbers) numbers

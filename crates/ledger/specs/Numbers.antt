@@ -1,6 +1,7 @@
 -- A session as a row of numbers, which a caller keeps between two deliveries: the header's twenty, the session's eight, the open
--- profile's nine, in the order in which the session names them.
+-- profile's nine, in the order in which the session names them, and behind them what the session has been given since.
 use mathlib.Core.List.{List, [], _∷_, _++_}
+use Prim.Native.Nat.{ℕ}
 use lib.IntN.{ℤ, pos}
 use lib.ListN.{drop}
 use Rattle.frame.specs.declared.Header.{Header}
@@ -21,9 +22,18 @@ abbrev pub numbersOfProfile : Profile → List ℤ
 numbersOfProfile p =
     pos (p .posts) ∷ pos (p .row) ∷ p .datum ∷ p .least ∷ p .greatest ∷ pos (p .read) ∷ pos (p .filled) ∷ p .low ∷ p .high ∷ []
 
+-- request 1: the sum
+abbrev pub numbersAdded : Session → List ℤ
+numbersAdded s = s .sum ∷ []
+
 abbrev pub numbersOf : Session → List ℤ
-numbersOf s = numbersOfHeader (s .header) ++ (numbersOfCounts s ++ numbersOfProfile (s .profile))
+numbersOf s =
+    numbersOfHeader (s .header) ++ (numbersOfCounts s ++ (numbersOfProfile (s .profile) ++ numbersAdded s))
+
+-- how many they are: `DEM_SESSION`
+abbrev pub sessionNumbers : ℕ
+sessionNumbers = 38
 
 -- in a lent slice: "Numbers past `DEM_SESSION` are never looked at or changed."
 abbrev pub kept : Session → List ℤ → List ℤ
-kept s numbers = numbersOf s ++ drop 37 numbers
+kept s numbers = numbersOf s ++ drop sessionNumbers numbers

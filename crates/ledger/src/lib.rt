@@ -15,7 +15,7 @@ ghost use Rattle.ledger.specs.Ledger.{sessionSaid, soundSaid, completeSa
 ghost use Rattle.ledger.specs.Steps.{Keepable};
 
 // The numbers of a session; include/desk.h names them DEM_SESSION.
-pub const NUMBERS: usize = 37;
+pub const NUMBERS: usize = 38;
 
 // The session that numbers say; one that is not sound where they say none.
 pub fn session_of(numbers: &[i64]) -> Session

@@ -88,6 +88,7 @@ pub(crate) fn session_kept(numbers: &[i64]) -> Session
         column: count_at(numbers, 26),
         finished: count_at(numbers, 27),
         profile,
+        sum: number_at(numbers, 37),
     }
 }
 

@@ -7,6 +7,7 @@ ghost use mathlib.Core.List.{_++_};
 ghost use Prim.Native.Nat.{_+_, _≤_};
 ghost use lib.ListN.{length, drop};
 ghost use lib.Seq.{sets};
+ghost use Rattle.ledger.specs.Numbers.{numbersAdded, sessionNumbers};
 ghost use Rattle.ledger.specs.Steps.{withSign, headerRow, countRow, profileRow, rowOf};
 
 // The greatest number of 64 bits with a sign.
@@ -35,7 +36,7 @@ fn put_row(row: &[i64], at: usize, numbers: &mut [i64])
 }
 
 fn put_header(h: Header, numbers: &mut [i64])
-    requires { ⌜ 37 ≤ length (now numbers) ⌝ }
+    requires { ⌜ sessionNumbers ≤ length (now numbers) ⌝ }
     ensures { λ _. ⌜ now (numbers .exit) ≡ sets (now (numbers .entry)) 0 (headerRow h) ⌝ }
 {
     let sw = h.sw;
@@ -69,7 +70,7 @@ fn put_header(h: Header, numbers: &mut [i64])
 }
 
 fn put_counts(s: Session, numbers: &mut [i64])
-    requires { ⌜ 37 ≤ length (now numbers) ⌝ }
+    requires { ⌜ sessionNumbers ≤ length (now numbers) ⌝ }
     ensures { λ _. ⌜ now (numbers .exit) ≡ sets (now (numbers .entry)) 20 (countRow s) ⌝ }
 {
     let low = s.low;
@@ -87,7 +88,7 @@ fn put_counts(s: Session, numbers: &mut [i64])
 }
 
 fn put_profile(p: Profile, numbers: &mut [i64])
-    requires { ⌜ 37 ≤ length (now numbers) ⌝ }
+    requires { ⌜ sessionNumbers ≤ length (now numbers) ⌝ }
     ensures { λ _. ⌜ now (numbers .exit) ≡ sets (now (numbers .entry)) 28 (profileRow p) ⌝ }
 {
     let datum = p.datum;
@@ -105,11 +106,22 @@ fn put_profile(p: Profile, numbers: &mut [i64])
     put_row(&row, 28, numbers);
 }
 
+// What the session has been given since the first twenty, eight and nine.
+fn put_added(s: Session, numbers: &mut [i64])
+    requires { ⌜ sessionNumbers ≤ length (now numbers) ⌝ }
+    ensures { λ _. ⌜ now (numbers .exit) ≡ sets (now (numbers .entry)) 37 (numbersAdded s) ⌝ }
+{
+    let sum = s.sum;
+    let row = [sum];
+    put_row(&row, 37, numbers);
+}
+
 pub(crate) fn keep(s: Session, numbers: &mut [i64])
-    requires { ⌜ 37 ≤ length (now numbers) ⌝ }
-    ensures { λ _. ⌜ now (numbers .exit) ≡ rowOf s ++ drop 37 (now (numbers .entry)) ⌝ }
+    requires { ⌜ sessionNumbers ≤ length (now numbers) ⌝ }
+    ensures { λ _. ⌜ now (numbers .exit) ≡ rowOf s ++ drop sessionNumbers (now (numbers .entry)) ⌝ }
 {
     put_header(s.header, numbers);
     put_counts(s, numbers);
     put_profile(s.profile, numbers);
+    put_added(s, numbers);
 }

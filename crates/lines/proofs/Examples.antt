@@ -52,6 +52,7 @@ listed =
       column = 0;
       finished = 0;
       profile = noProfile;
+      sum = pos 4200;
     }
 
 the-paper's-lines : endText listed

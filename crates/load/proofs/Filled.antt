@@ -2,7 +2,7 @@
 use mathlib.Core.List.{List}
 use mathlib.Core.Path.{_≡_, sym, _∙_}
 use Prim.Native.Nat.{ℕ, _+_, _-_, _*_, _≤_, _<_}
-use lib.IntN.{ℤ}
+use lib.IntN.{ℤ, _+ℤ_}
 use lib.ListN.{length, take}
 use mathlib.Core.Bool.{false, cond}
 use lib.Dec.{ltb, eqb}
@@ -15,6 +15,7 @@ use Rattle.session.specs.declared.Profile.{Profile}
 use Rattle.session.specs.declared.Session.{Session}
 use Rattle.session.specs.Session.{openBlocks}
 use Rattle.ground.specs.Posts.{noTally, tallyAll}
+use Rattle.ground.specs.Extremes.{filledOnly, sumOf}
 use Rattle.ground.specs.declared.Tally.{Tally}
 use Rattle.ground.proofs.MergedTallies.{tally-merged}
 use Rattle.delivery.specs.Deliver.{filledSession, sheetTally, profileTally, closedSession, closeFault, closeVerdict, fills, wrong, Verdict, filling, nextCell}
@@ -25,7 +26,7 @@ use Rattle.progress.proofs.Counts.{is-countable}
 use Rattle.load.specs.Steps.{Filling, Lies, Placing}
 
 filled-same : (s : Session) (column : ℕ) (p : Profile) (hs : List ℤ)
-    → filledSession s column p hs ≡ filledWith s column p (length hs) (tallyAll noTally hs)
+    → filledSession s column p hs ≡ filledWith s column p (length hs) (tallyAll noTally hs) (sumOf (filledOnly hs))
 filled-same s column p hs =
     λ j.
     record {
@@ -50,14 +51,15 @@ filled-same s column p hs =
             low = tally-merged (profileTally p) hs j .low;
             high = tally-merged (profileTally p) hs j .high;
           };
+      sum = s .sum +ℤ sumOf (filledOnly hs);
     }
 
--- a block's counts are gone on from
-pub filled-on : (s : Session) (column : ℕ) (p : Profile) (n : ℕ) (u : Tally) → Filling s p n u
-    → cond (countable s p n u) (filledWith s column p n u) s ≡ filledWith s column p n u
-filled-on s column p n u k =
+-- a block's counts and its sum are gone on from
+pub filled-on : (s : Session) (column : ℕ) (p : Profile) (n : ℕ) (u : Tally) (sum : ℤ) → Filling s p n u sum
+    → cond (countable s p n u sum) (filledWith s column p n u sum) s ≡ filledWith s column p n u sum
+filled-on s column p n u sum k =
     rw
-    (is-countable s p n u
+    (is-countable s p n u sum
     (record {
       taken = omega (arith, k .ready .taken-most);
       posts = omega (arith, k .ready .posts-most);
@@ -66,6 +68,8 @@ filled-on s column p n u k =
       profile-filled = omega arith;
       more = omega arith;
       more-filled = omega arith;
+      so-far = omega (arith, k .ready .sum-most, k .ready .filled-most, k .ready .posts-most);
+      more-sum = omega arith;
     }))
 
 module _ (s : Session) (number column : ℕ) (p : Profile) where
@@ -75,36 +79,36 @@ module _ (s : Session) (number column : ℕ) (p : Profile) where
       cond (ltb (p .read + length hs) (p .posts)) (fills after (nextCell s column p) hs)
       (closeVerdict (closeFault (number - openBlocks s) after) (fills (closedSession after) (nextCell s column p) hs))
 
-  module _ (n : ℕ) (u : Tally) (hs : List ℤ) (e : n ≡ length hs) (f : u ≡ tallyAll noTally hs) where
+  module _ (n : ℕ) (u : Tally) (sum : ℤ) (hs : List ℤ) (e : n ≡ length hs) (f : u ≡ tallyAll noTally hs) (g : sum ≡ sumOf (filledOnly hs)) where
     -- the session is the definition's
-    same : judgedOf s (filledTo (filledWith s column p n u) hs) ≡ judgedOf s (filling s number column p hs)
-    same = λ j. judgedOf s (filledTo (((λ i. filledWith s column p (e i) (f i)) ∙ sym (filled-same s column p hs)) j) hs)
+    same : judgedOf s (filledTo (filledWith s column p n u sum) hs) ≡ judgedOf s (filling s number column p hs)
+    same = λ j. judgedOf s (filledTo (((λ i. filledWith s column p (e i) (f i) (g i)) ∙ sym (filled-same s column p hs)) j) hs)
 
     counted : (after : Session) → taken after 0 (nextCell s column p) n ≡ taken after 0 (nextCell s column p) (length hs)
     counted after = λ j. taken after 0 (nextCell s column p) (e j)
 
     -- a good block: more posts to come, or its profile closes, or breaks a closing rule
     pub fill-more : p .read + n < p .posts
-        → taken (filledWith s column p n u) 0 (nextCell s column p) n ≡ judgedOf s (filling s number column p hs)
-    fill-more h = counted (filledWith s column p n u) ∙ go (filledWith s column p n u) ∙ same
+        → taken (filledWith s column p n u sum) 0 (nextCell s column p) n ≡ judgedOf s (filling s number column p hs)
+    fill-more h = counted (filledWith s column p n u sum) ∙ go (filledWith s column p n u sum) ∙ same
       where
         go : (after : Session) → taken after 0 (nextCell s column p) (length hs) ≡ judgedOf s (filledTo after hs)
         go after = sym (rw (lt-ltb (p .read + length hs) (p .posts) (omega (arith, h, e))))
 
-    module _ (h : p .posts ≤ p .read + n) (r : Refusal) (is : r ≡ closeFault (number - openBlocks s) (filledWith s column p n u)) where
+    module _ (h : p .posts ≤ p .read + n) (r : Refusal) (is : r ≡ closeFault (number - openBlocks s) (filledWith s column p n u sum)) where
       last : ltb (p .read + length hs) (p .posts) ≡ false
       last = le-ltb (p .read + length hs) (p .posts) (omega (arith, h, e))
 
       pub fill-last : r .kind ≡ 0
-          → taken (closedSession (filledWith s column p n u)) 0 (nextCell s column p) n ≡ judgedOf s (filling s number column p hs)
-      fill-last z = counted (closedSession (filledWith s column p n u)) ∙ go (filledWith s column p n u) is ∙ same
+          → taken (closedSession (filledWith s column p n u sum)) 0 (nextCell s column p) n ≡ judgedOf s (filling s number column p hs)
+      fill-last z = counted (closedSession (filledWith s column p n u sum)) ∙ go (filledWith s column p n u sum) is ∙ same
         where
           go : (after : Session) → r ≡ closeFault (number - openBlocks s) after
               → taken (closedSession after) 0 (nextCell s column p) (length hs) ≡ judgedOf s (filledTo after hs)
           go after x = sym (rw (last, ← x, eq-eqb (r .kind) 0 z))
 
       pub fill-broken : (r .kind ≡ 0 → ⊥) → judgedOf s (wrong (r .kind) (r .block) (r .byte)) ≡ judgedOf s (filling s number column p hs)
-      fill-broken z = go (filledWith s column p n u) is ∙ same
+      fill-broken z = go (filledWith s column p n u sum) is ∙ same
         where
           go : (after : Session) → r ≡ closeFault (number - openBlocks s) after
               → judgedOf s (wrong (r .kind) (r .block) (r .byte)) ≡ judgedOf s (filledTo after hs)

@@ -1,14 +1,14 @@
 -- A block of a profile judged: a fault is its refusal, and without one it comes to the definition's verdict.
 use mathlib.Core.List.{List, []}
 use mathlib.Core.Path.{_≡_, sym, _∙_, ap, refl, subst}
-use Prim.Native.Nat.{ℕ, _≤_, _<_, _+_, min}
+use Prim.Native.Nat.{ℕ, _≤_, _<_, _+_, _^_, min}
 use native.Mathlib.Omega.{arith}
-use lib.IntN.{ℤ}
-use lib.ListN.{length, take}
+use lib.IntN.{ℤ, natAbs}
+use lib.ListN.{length, take, length-take}
 use mathlib.Core.Bool.{true, false, Bool, cond, not}
-use borrow.Author.Tests.{eq-eqb, ne-eqb, lt-ltb, le-ltb, ltb-false}
+use borrow.Author.Tests.{eq-eqb, ne-eqb, lt-ltb, le-ltb, ltb-false, le-leb}
 use lib.Dec.{eqb, ltb}
-use Rattle.laws.proofs.Tests.{by-test}
+use Rattle.laws.proofs.Tests.{by-test, and-both}
 use Rattle.field.specs.Field.{fault}
 use Rattle.field.specs.declared.Fault.{Fault}
 use Rattle.frame.specs.Frame.{zOf, cellsOf}
@@ -21,9 +21,11 @@ use Rattle.session.specs.Session.{busy}
 use Rattle.session.specs.declared.Session.{Session}
 use Rattle.session.specs.declared.Profile.{Profile}
 use Rattle.ground.specs.Posts.{noTally, tallyAll, heights, postsOf, postsRestFault}
+use Rattle.ground.specs.Extremes.{filledOnly, sumOf}
 use Rattle.ground.proofs.PostsRead.{scan-few, posts-length}
 use Rattle.ground.proofs.Heights.{heights-length}
 use Rattle.posts.specs.Steps.{BlockScanned}
+use Rattle.posts.specs.Scan.{summed}
 use Rattle.posts.specs.declared.Scan.{Scan}
 use Rattle.delivery.specs.Deliver.{Verdict, Room, tooShort, again, wrong, begins, beginning, unless, filling, heightsHere, fills, finishedSession, further, opening, later, postsHere, openingWith, placed, firstColumn, opened}
 use Rattle.gate.specs.Gate.{judgedOf}
@@ -88,28 +90,37 @@ scanned-count s datum byte n block before after r sc e =
 -- what is known of a profile whose next n posts were scanned without fault
 pub record Scannable (s : Session) (p : Profile) (n : ℕ) : Type 0 where
   pub ready : Ready s
+  pub few : n ≤ 170
   pub read-most : p .read + n ≤ p .posts
   pub posts-most : p .posts ≤ 2048
   pub filled-most : p .filled ≤ p .read
 
 module _ (s : Session) (p : Profile) (byte n : ℕ) (block : List ℕ) (before after : List ℤ) (r : Scan)
     (sc : BlockScanned block byte n (zOf (s .header)) (p .datum) before after r) (e : r .kind ≡ 0) (k : Scannable s p n) where
-  pub scanned-filling : Filling s p n (r .tally)
-  scanned-filling =
+  pub scanned-filling : {sum : ℤ} → natAbs sum ≤ 2 ^ 40 → Filling s p n (r .tally) sum
+  scanned-filling h =
       record {
         ready = k .ready;
         count = scanned-count s (p .datum) byte n block before after r sc e;
+        sum-most = h;
         read-most = k .read-most;
         posts-most = k .posts-most;
         filled-most = k .filled-most;
       }
 
-  -- its posts' heights, and what is judged of any heights is judged of them
+  -- its posts' heights and their sum, and what is judged of any heights is judged of them
   counted : n ≡ length (heightsHere s p byte n block)
   counted = sym (heights-length (zOf (s .header)) (p .datum) (postsOf n byte block) ∙ posts-length n byte block)
 
-  pub by-heights : (v : List ℤ → Verdict) (j : Judged) → ByTally s v n (r .tally) j → j ≡ judgedOf s (v (heightsHere s p byte n block))
-  by-heights v j b = b (heightsHere s p byte n block) counted (sc .tally-is e)
+  scanned-sum : summed n after ≡ sumOf (filledOnly (heightsHere s p byte n block))
+  scanned-sum =
+      let there : n ≤ length after = omega (arith, counted, ap length (sc .heights-are e), length-take n after) in
+      rw (and-both (le-leb n 170 (k .few)) (le-leb n (length after) there))
+      (ap (λ (hs : List ℤ). sumOf (filledOnly hs)) (sc .heights-are e))
+
+  pub by-heights : (v : List ℤ → Verdict) (j : Judged) {sum : ℤ} → sum ≡ summed n after → ByTally s v n (r .tally) sum j
+      → j ≡ judgedOf s (v (heightsHere s p byte n block))
+  by-heights v j t b = b (heightsHere s p byte n block) counted (sc .tally-is e) (t ∙ scanned-sum)
 
   pub filled-lies : (number column : ℕ) → Placing s number column p
       → Lies (cellsOf (s .header)) after (filling s number column p (heightsHere s p byte n block))

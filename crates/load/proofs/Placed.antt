@@ -40,12 +40,13 @@ module _ (s : Session) (number : ℕ) (h : Head) (v : Verdict) where
       (λ p. by-test (rowFits s (h .posts) (rowPlace s h)) (λ q. subst (Lies cells scratch) (place-good p q) (k p q)) (λ q. subst (Lies cells scratch) (place-row p q) tt))
       (λ p. subst (Lies cells scratch) (place-column p) tt)
 
-module _ (s : Session) (number : ℕ) (h : Head) (n : ℕ) (u : Tally) (k : Placeable s number h n u) where
-  pub opened-filling : Filling s (opened s h) n u
+module _ (s : Session) (number : ℕ) (h : Head) (n : ℕ) (u : Tally) (sum : ℤ) (k : Placeable s number h n u sum) where
+  pub opened-filling : Filling s (opened s h) n u sum
   opened-filling =
       record {
         ready = k .ready;
         count = k .count;
+        sum-most = k .sum-most;
         read-most = omega (arith, k .within);
         posts-most = k .posts-most;
         filled-most = omega arith;

@@ -25,6 +25,7 @@ ready-of s t h =
       taken-most = taken-bound s t;
       posts-most = posts-bound s t;
       filled-most = f .filled;
+      sum-most = f .sum;
       blocks-most = omega (arith, f .taken-least);
       profile-is =
           λ b.

@@ -2,7 +2,7 @@
 use mathlib.Core.List.{List}
 use mathlib.Core.Path.{_≡_}
 use mathlib.Core.Bool.{true, false}
-use Prim.Native.Nat.{ℕ, _+_, _≤_, _<_}
+use Prim.Native.Nat.{ℕ, _+_, _*_, _^_, _≤_, _<_}
 use lib.IntN.{ℤ, natAbs}
 use lib.ListN.{take, length}
 use Rattle.frame.specs.Frame.{cellsOf, columnsOf, rowsOf, zOf}
@@ -12,6 +12,7 @@ use Rattle.session.specs.Session.{openBlocks, busy}
 use Rattle.session.specs.declared.Profile.{Profile}
 use Rattle.ground.specs.declared.Tally.{Tally}
 use Rattle.ground.specs.Posts.{noTally, tallyAll}
+use Rattle.ground.specs.Extremes.{filledOnly, sumOf}
 use Rattle.posts.specs.Scan.{voided, placed}
 use Rattle.delivery.specs.Deliver.{Verdict, again, wrong, begins, fills}
 use Rattle.delivery.specs.declared.Delivered.{Delivered}
@@ -39,13 +40,15 @@ pub record Ready (s : Session) : Type 0 where
   pub taken-most : s .taken ≤ 26626
   pub posts-most : s .posts ≤ 4194304
   pub filled-most : s .filled ≤ s .posts
+  pub sum-most : natAbs (s .sum) ≤ s .filled * 4276700
   pub blocks-most : openBlocks s ≤ s .taken
   pub profile-is : busy s ≡ true → OpenProfile s
 
--- what a block's n posts, of tally u, may add to a session and to a profile of it
-pub record Filling (s : Session) (p : Profile) (n : ℕ) (u : Tally) : Type 0 where
+-- what a block's n posts, of tally u and with their sum, may add to a session and to a profile of it
+pub record Filling (s : Session) (p : Profile) (n : ℕ) (u : Tally) (sum : ℤ) : Type 0 where
   pub ready : Ready s
   pub count : u .filled ≤ n
+  pub sum-most : natAbs sum ≤ 2 ^ 40
   pub read-most : p .read + n ≤ p .posts
   pub posts-most : p .posts ≤ 2048
   pub filled-most : p .filled ≤ p .read
@@ -78,7 +81,7 @@ pub record Opening (s : Session) (number : ℕ) (block : List ℕ) (h : Head) (s
   pub posts-most : h .posts ≤ 2048
   pub datum-most : natAbs (h .datum) ≤ 1000000
 
-pub record Placeable (s : Session) (number : ℕ) (h : Head) (n : ℕ) (u : Tally) : Type 0 where
+pub record Placeable (s : Session) (number : ℕ) (h : Head) (n : ℕ) (u : Tally) (sum : ℤ) : Type 0 where
   pub ready : Ready s
   pub idle : busy s ≡ false
   pub not-last : s .closed < s .header .profiles
@@ -86,6 +89,7 @@ pub record Placeable (s : Session) (number : ℕ) (h : Head) (n : ℕ) (u : Tall
   pub posts-most : h .posts ≤ 2048
   pub within : n ≤ h .posts
   pub count : u .filled ≤ n
+  pub sum-most : natAbs sum ≤ 2 ^ 40
 
 -- a later delivery that is next in order, with scratch for a block's heights
 pub record Next (s : Session) (number : ℕ) (block : List ℕ) (scratch : List ℤ) : Type 0 where
@@ -114,6 +118,7 @@ pub record Judging (s : Session) (v : Verdict) (cells : ℕ) (scratch : List ℤ
   pub judged-is : j ≡ judgedOf s v
   pub lies : Lies cells scratch v
 
--- n posts of tally u judged: as any heights of that number and that tally
-abbrev pub ByTally : Session → (List ℤ → Verdict) → ℕ → Tally → Judged → Type 0
-ByTally s v n u j = (hs : List ℤ) → n ≡ length hs → u ≡ tallyAll noTally hs → j ≡ judgedOf s (v hs)
+-- n posts of tally u judged: as any heights of that number, that tally and that sum
+abbrev pub ByTally : Session → (List ℤ → Verdict) → ℕ → Tally → ℤ → Judged → Type 0
+ByTally s v n u sum j =
+    (hs : List ℤ) → n ≡ length hs → u ≡ tallyAll noTally hs → sum ≡ sumOf (filledOnly hs) → j ≡ judgedOf s (v hs)

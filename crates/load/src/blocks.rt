@@ -32,13 +32,14 @@ fn further_block(s: Session, number: u64, block: &[u8], scratch: &mut [i32]) -> 
         return verdict::refused(s, r.kind, number, r.byte);
     }
     let tally = r.tally;
-    steps::fill_step(s, number, s.column, p, n, tally)
+    let sum = posts::sum_filled(scratch, n as usize);
+    steps::fill_step(s, number, s.column, p, n, tally, sum)
 }
 
 // A profile's first block whose posts are good: its place, then its cells.
-fn place_profile(s: Session, number: u64, head: Head, n: u64, u: Tally) -> Judged
-    requires { ⌜ Placeable s number head n u ⌝ }
-    ensures { λ r. ⌜ ByTally s (λ hs. placed s number head (filling s number (firstColumn s head) (opened s head) hs)) n u r ⌝ }
+fn place_profile(s: Session, number: u64, head: Head, n: u64, u: Tally, sum: i64) -> Judged
+    requires { ⌜ Placeable s number head n u sum ⌝ }
+    ensures { λ r. ⌜ ByTally s (λ hs. placed s number head (filling s number (firstColumn s head) (opened s head) hs)) n u sum r ⌝ }
 {
     let h = s.header;
     let c = frame::column_of(h, head.x);
@@ -51,7 +52,7 @@ fn place_profile(s: Session, number: u64, head: Head, n: u64, u: Tally) -> Judge
     }
     let column = rules::first_column(s, c);
     let p = rules::open_profile(head, w);
-    steps::fill_step(s, number, column, p, n, u)
+    steps::fill_step(s, number, column, p, n, u, sum)
 }
 
 // A profile's first block: posts from byte 145, at most 146.
@@ -67,7 +68,8 @@ fn open_block(s: Session, number: u64, block: &[u8], head: Head, scratch: &mut [
         return verdict::refused(s, r.kind, number, r.byte);
     }
     let tally = r.tally;
-    place_profile(s, number, head, n, tally)
+    let sum = posts::sum_filled(scratch, n as usize);
+    place_profile(s, number, head, n, tally, sum)
 }
 
 // The next profile's first block, whose head is read first.

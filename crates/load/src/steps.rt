@@ -28,11 +28,12 @@ pub(crate) fn fill_step(
     p: Profile,
     n: u64,
     u: Tally,
+    sum: i64,
 ) -> Judged
-    requires { ⌜ Filling s p n u × Placing s number column p ⌝ }
-    ensures { λ r. ⌜ ByTally s (filling s number column p) n u r ⌝ }
+    requires { ⌜ Filling s p n u sum × Placing s number column p ⌝ }
+    ensures { λ r. ⌜ ByTally s (filling s number column p) n u sum r ⌝ }
 {
-    let after = progress::fill_session(s, column, p, n, u);
+    let after = progress::fill_session(s, column, p, n, u, sum);
     let at = next_cell(s, column, p);
     if p.read + n < p.posts {
         return verdict::taken(after, 0, at, n);

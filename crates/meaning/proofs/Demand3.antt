@@ -15,6 +15,7 @@ use Rattle.ground.specs.Blocks.{blocksIn}
 use Rattle.session.specs.declared.Session.{Session}
 use Rattle.session.specs.Session.{fresh}
 use Rattle.ground.specs.Posts.{void, filledIn}
+use Rattle.ground.specs.Extremes.{filledOnly, sumOf}
 use Rattle.delivery.specs.declared.Answer.the-variants.{Taken}
 use Rattle.delivery.specs.Deliver.{Lent, lend, roomOf, deliverOf, lentAfter}
 use Rattle.meaning.specs.Text.{profilesIn, cellsIn, postsIn, heightIn, allPosts, filledPosts, cellOfPost}
@@ -28,6 +29,7 @@ use Rattle.meaning.proofs.OneDelivery.{Stands, stands-first, answer-tol
 use Rattle.meaning.proofs.Runs.{stands-after, taken-due, due-taken, late-not-taken, next-answer, twice-once, disturbed-same}
 use Rattle.meaning.proofs.ShutOut.{isRefused, isHeld, allAre}
 use Rattle.meaning.proofs.EachPost as Cells
+use Rattle.meaning.proofs.Weighing as Weighing
 use Rattle.meaning.proofs.EachNumber as Numbers
 use Rattle.meaning.proofs.ShutOut as Shut
 
@@ -125,7 +127,7 @@ module _ (lent : List ℤ) (cs : List Call) (kept : Fresh lent cs) where
   pub filled-as-posts : 1 ≤ blocksIn text → filledIn (take (cellsIn text) grid) ≡ filledPosts (allPosts text)
   filled-as-posts some =
       ap (λ (g : List ℤ). filledIn (take (cellsIn text) g)) grid-means
-      ∙ Cells.filled-as-posts text (stands .good .kept some) lent some
+      ∙ Weighing.filled-as-posts text (stands .good .kept some) lent some
       ∙ Numbers.filled-posts text (stands .good .kept some)
 
   -- and the session's counts are the text's: blocks, posts and filled posts
@@ -137,6 +139,14 @@ module _ (lent : List ℤ) (cs : List Call) (kept : Fresh lent cs) where
         ap (λ (s : Session). s .posts) e ∙ Numbers.as-many-posts text,
         ap (λ (s : Session). s .filled) e ∙ Numbers.filled-posts text (stands .good .kept some),
       )
+
+  -- 02, request 1: the session's sum is that of the sheet's filled cells
+  pub sum-over-cells : 1 ≤ blocksIn text → session .sum ≡ sumOf (filledOnly (take (cellsIn text) grid))
+  sum-over-cells some =
+      ap (λ (s : Session). s .sum) (session-means ∙ begun-means text some)
+      ∙ sym
+      (ap (λ (g : List ℤ). sumOf (filledOnly (take (cellsIn text) g))) grid-means
+      ∙ Weighing.sum-as-posts text (stands .good .kept some) lent some)
 
   -- each decimal exact: every number of header, heads and posts is the grammar's meaning of its bytes, and a filled cell is made of them
   pub each-number : 1 ≤ blocksIn text → Exact text

@@ -35,12 +35,13 @@ use Rattle.ground.specs.Blocks.{blockAt, blocksIn}
 use Rattle.ground.specs.Posts.{judgePost, postsFault, void, voidPost, filledIn}
 use Rattle.ground.proofs.PostsRead.{passed, fault-on, fault-none}
 use Rattle.ground.proofs.Heights.{height-filled}
+use Rattle.ground.proofs.Weights.{filled-append}
 use Rattle.meaning.specs.Text.{profilesIn, startOf, headIn, headerIn, roomIn, postsIn, postBlock, postByte, postIn, heightIn, heightsIn, allHeights, allPosts, filledPosts, zIn}
 use Rattle.meaning.specs.Rules.{firstBreach, inBlock, postsOfBlock, postsByte, blockRules, blocksOf, placeRules, when, isWhole, closingRules}
 use Rattle.meaning.specs.Exact.{AllMean, headerNumbers, headNumbers, Exact}
 use Rattle.meaning.proofs.Lists.{Kept, kept-front, kept-rest, kept-at}
 use Rattle.meaning.proofs.Placed.{first-kept, behind-kept, profile-kept, headRule, behindHead, behindPlace, header-says, header-read}
-use Rattle.meaning.proofs.EachPost.{begun-with, filled-append}
+use Rattle.meaning.proofs.EachPost.{begun-with}
 
 -- ---- readings of kind 0
 

@@ -1,27 +1,26 @@
 -- Each post has a cell of its own, the rest of the sheet is void, and past it all is as lent. Taking a cell's number apart carries it.
-use mathlib.Core.List.{map, List, _++_, [], _∷_}
-use mathlib.Core.Path.{_≡_, sym, _∙_, ap, ap₂, refl}
+use mathlib.Core.List.{map, List, _++_}
+use mathlib.Core.Path.{_≡_, sym, _∙_, ap, ap₂}
 use Prim.Native.Nat.{ℕ, zero, suc, _+_, _<_, _-_, _≤_, _*_, _/_, _%_}
-use native.Mathlib.Nat.{add-zero, div-add-mod', suc-mul}
+use native.Mathlib.Nat.{add-zero, div-add-mod'}
 use native.Mathlib.Omega.{arith}
-use lib.ListN.{getD, length, drop, length-map, length-append, length-drop, List·getD-append, take}
-use mathlib.Core.Bool.{true, cond, false}
+use lib.ListN.{getD, length, drop, length-map, length-append, length-drop, List·getD-append}
+use mathlib.Core.Bool.{true}
 use borrow.Author.Tests.{leb-true, ltb-true, le-leb, lt-ltb, ltb-false, ne-eqb, eq-eqb, eqb-false}
 use lib.Dec.{leb, ltb, eqb}
 use lib.IntN.{ℤ}
-use lib.Seq.{getD-append-add, getD-drop, take-at, drop-at}
+use lib.Seq.{getD-append-add, getD-drop, drop-at}
 use lib.Arith.{digits-lt, digits-div, digits-mod}
 use Rattle.ground.specs.Blocks.{blocksIn}
-use Rattle.laws.specs.Lists.{from, below, joined}
-use Rattle.laws.specs.Sign.{sameZ}
+use Rattle.laws.specs.Lists.{from, below}
 use Rattle.laws.proofs.Tests.{and-first, and-second, by-test}
 use Rattle.laws.proofs.Lists.{from-length}
-use Rattle.ground.specs.Posts.{void, filledIn}
-use Rattle.meaning.specs.Text.{profilesIn, postsIn, columnIn, rowIn, profileAt, postStands, valueAt, heightIn, startOf, headIn, cellsIn, cellIn, columnsIn, rowsIn, cellOfPost, heightsIn, allHeights}
+use Rattle.ground.specs.Posts.{void}
+use Rattle.meaning.specs.Text.{profilesIn, postsIn, columnIn, rowIn, profileAt, postStands, valueAt, heightIn, startOf, headIn, cellsIn, cellIn, columnsIn, rowsIn, cellOfPost}
 use Rattle.meaning.specs.Means.{gridOf}
 use Rattle.meaning.specs.Rules.{firstBreach}
-use Rattle.meaning.proofs.Starts.{none-yet, start-order}
-use Rattle.meaning.proofs.Placed.{PlacedAt, placed-at, some-profiles}
+use Rattle.meaning.proofs.Starts.{none-yet}
+use Rattle.meaning.proofs.Placed.{PlacedAt, placed-at}
 
 -- one of the values from a on
 pub map-at : {A : Type 0} (f : ℕ → A) (a n i : ℕ) (d : A) → i < n → getD (map f (from a n)) i d ≡ f (a + i)
@@ -77,13 +76,13 @@ begun-with text j i h =
     let none = none-yet text j (ltb-false (startOf text j) (blocksIn text) e) in
     absurd (omega (arith, h, none)))
 
-posts-most : (text : List ℕ) (j : ℕ) → postsIn text j ≤ headIn text j .posts
+pub posts-most : (text : List ℕ) (j : ℕ) → postsIn text j ≤ headIn text j .posts
 posts-most text j = omega arith
 
 -- ---- the grid, once block 0 is there
 
 module _ (text : List ℕ) (lent : List ℤ) where
-  sheet-length : length (map (cellIn text) (below (cellsIn text))) ≡ cellsIn text
+  pub sheet-length : length (map (cellIn text) (below (cellsIn text))) ≡ cellsIn text
   sheet-length = length-map (below (cellsIn text)) (cellIn text) ∙ from-length 0 (cellsIn text)
 
   pub begun-grid : 1 ≤ blocksIn text → gridOf text lent ≡ map (cellIn text) (below (cellsIn text)) ++ drop (cellsIn text) lent
@@ -202,201 +201,3 @@ module _ (text : List ℕ) (kept : firstBreach text .kind ≡ 0) where
       ap₂ (λ (x y : ℕ). x * rowsIn text + y) column (sym (s .row-is)) ∙ div-add-mod' c (rowsIn text)
       in
       empty j i (s .profile) (s .post) cell)
-
--- ---- how many cells are filled: the sum over the columns
-
--- f a + f (a + 1) + .., n terms
-abbrev total : (ℕ → ℕ) → ℕ → ℕ → ℕ
-total f a zero = 0
-total f a (suc n) = f a + total f (suc a) n
-
-total-parts : (f : ℕ → ℕ) (a m n : ℕ) → total f a (m + n) ≡ total f a m + total f (a + m) n
-total-parts f a zero n =
-    let e : 0 + n ≡ n = omega arith in
-    rw (e, add-zero a) (omega arith)
-total-parts f a (suc m) n =
-    let e : suc m + n ≡ suc (m + n) = omega arith in
-    let k : a + suc m ≡ suc a + m = omega arith in
-    rw (e, k) (omega (arith, total-parts f (suc a) m n))
-
-total-same : (f g : ℕ → ℕ) (a b n : ℕ) → ((i : ℕ) → i < n → f (a + i) ≡ g (b + i)) → total f a n ≡ total g b n
-total-same f g a b zero h = refl
-total-same f g a b (suc n) h =
-    let x : f a ≡ g b = ap f (sym (add-zero a)) ∙ h 0 (omega arith) ∙ ap g (add-zero b) in
-    let rest =
-    total-same f g (suc a) (suc b) n
-    (λ i p.
-    let u : suc a + i ≡ a + suc i = omega arith in
-    let v : suc b + i ≡ b + suc i = omega arith in
-    ap f u ∙ h (suc i) (omega (arith, p)) ∙ ap g (sym v))
-    in
-    omega (arith, x, rest)
-
-total-none : (f : ℕ → ℕ) (a n : ℕ) → ((i : ℕ) → a ≤ i → i < a + n → f i ≡ 0) → total f a n ≡ 0
-total-none f a zero h = refl
-total-none f a (suc n) h =
-    let x = h a (omega arith) (omega arith) in
-    let rest = total-none f (suc a) n (λ i p q. h i (omega (arith, p)) (omega (arith, q))) in
-    omega (arith, x, rest)
-
--- a sum by rows of m terms
-total-rows : (f : ℕ → ℕ) (g : ℕ → ℕ → ℕ) (m k n : ℕ) → ((c r : ℕ) → r < m → f (c * m + r) ≡ g c r)
-    → total f (k * m) (n * m) ≡ total (λ c. total (g c) 0 m) k n
-total-rows f g m k zero h = let e : 0 * m ≡ 0 = omega arith in rw e
-total-rows f g m k (suc n) h =
-    let e : suc n * m ≡ m + n * m = omega (arith, suc-mul n m) in
-    let parts = total-parts f (k * m) m (n * m) in
-    let first = total-same f (g k) (k * m) 0 m (λ r p. h k r p ∙ ap (g k) (omega arith)) in
-    let next : k * m + m ≡ suc k * m = omega (arith, suc-mul k m) in
-    let rest = total-rows f g m (suc k) n h in
-    rw e (parts ∙ ap₂ _+_ first (ap (λ (x : ℕ). total f x (n * m)) next ∙ rest))
-
--- 1 for a filled height, 0 for a void one
-abbrev filledOne : ℤ → ℕ
-filledOne h = cond (sameZ h void) 0 1
-
-pub filled-append : (xs ys : List ℤ) → filledIn (xs ++ ys) ≡ filledIn xs + filledIn ys
-filled-append [] ys = omega arith
-filled-append (x ∷ xs) ys = omega (arith, filled-append xs ys)
-
-filled-map : (f : ℕ → ℤ) (a n : ℕ) → filledIn (map f (from a n)) ≡ total (λ i. filledOne (f i)) a n
-filled-map f a zero = refl
-filled-map f a (suc n) = omega (arith, filled-map f (suc a) n)
-
-filled-joined : (f : ℕ → List ℤ) (a n : ℕ) → filledIn (joined (map f (from a n))) ≡ total (λ i. filledIn (f i)) a n
-filled-joined f a zero = refl
-filled-joined f a (suc n) =
-    omega (arith, filled-append (f a) (joined (map f (from (suc a) n))), filled-joined f (suc a) n)
-
--- how many cells of a column are filled
-abbrev filledColumn : List ℕ → ℕ → ℕ
-filledColumn text column = total (λ row. filledOne (valueAt text column row)) 0 (rowsIn text)
-
--- a cell that no post stands for is not filled
-unfilled : (text : List ℕ) (column row : ℕ) → (postStands text column row ≡ true → ⊥) → filledOne (valueAt text column row) ≡ 0
-unfilled text column row empty = ap filledOne (value-void text column row empty)
-
--- the same at the column of profile j, by its rows
-unfilled-row : (text : List ℕ) (j row : ℕ) → ((i : ℕ) → i < postsIn text j → row ≡ rowIn text j + i → ⊥)
-    → filledOne (valueAt text (columnIn text 0 + j) row) ≡ 0
-unfilled-row text j row empty =
-    unfilled text (columnIn text 0 + j) row
-    (λ t.
-    let p = profileAt text (columnIn text 0 + j) in
-    let s = stands-for text (columnIn text 0 + j) row t in
-    let same : p ≡ j = omega arith in
-    let south : rowIn text p ≡ rowIn text j = ap (rowIn text) same in
-    let posts : postsIn text p ≡ postsIn text j = ap (postsIn text) same in
-    empty (row - rowIn text p) (omega (arith, s .post, posts)) (omega (arith, s .row-is, south)))
-
--- a column west of all profiles, or east of them, has no filled cell
-unfilled-column : (text : List ℕ) (column : ℕ) → ((j : ℕ) → j < profilesIn text → column ≡ columnIn text 0 + j → ⊥)
-    → filledColumn text column ≡ 0
-unfilled-column text column empty =
-    total-none (λ row. filledOne (valueAt text column row)) 0 (rowsIn text)
-    (λ row p q.
-    unfilled text column row
-    (λ t.
-    let s = stands-for text column row t in
-    empty (profileAt text column) (s .profile) (s .column-is)))
-
--- a profile of which the text has no post
-unfilled-profile : (text : List ℕ) (j : ℕ) → postsIn text j ≡ 0 → filledIn (heightsIn text j) ≡ 0
-unfilled-profile text j none = filled-map (heightIn text j) 0 (postsIn text j) ∙ ap (total (λ i. filledOne (heightIn text j i)) 0) none
-
-module _ (text : List ℕ) (kept : firstBreach text .kind ≡ 0) where
-  -- as many cells of its column are filled as posts of the profile
-  profile-column : (j : ℕ) → j < profilesIn text → filledColumn text (columnIn text 0 + j) ≡ filledIn (heightsIn text j)
-  profile-column j h = by-test (ltb (startOf text j) (blocksIn text)) begun unbegun
-    where
-      cells : ℕ → ℕ
-      cells row = filledOne (valueAt text (columnIn text 0 + j) row)
-
-      unbegun : ltb (startOf text j) (blocksIn text) ≡ false → total cells 0 (rowsIn text) ≡ filledIn (heightsIn text j)
-      unbegun e =
-          let none = none-yet text j (ltb-false (startOf text j) (blocksIn text) e) in
-          let void = total-none cells 0 (rowsIn text) (λ row p q. unfilled-row text j row (λ i k r. omega (arith, k, none))) in
-          void ∙ sym (unfilled-profile text j none)
-
-      begun : ltb (startOf text j) (blocksIn text) ≡ true → total cells 0 (rowsIn text) ≡ filledIn (heightsIn text j)
-      begun e =
-          let p = placed-at text kept j h (ltb-true (startOf text j) (blocksIn text) e) in
-          let row = rowIn text j in
-          let posts = postsIn text j in
-          let rest = rowsIn text - (row + posts) in
-          let all : rowsIn text ≡ row + (posts + rest) = omega (arith, p .row-room, posts-most text j) in
-          let south = total-none cells 0 row (λ r a b. unfilled-row text j r (λ i k q. omega (arith, b, q))) in
-          let north = total-none cells (0 + row + posts) rest (λ r a b. unfilled-row text j r (λ i k q. omega (arith, a, k, q))) in
-          let heights =
-          total-same cells (λ i. filledOne (heightIn text j i)) (0 + row) 0 posts
-          (λ i k.
-          let u : 0 + row + i ≡ row + i = omega arith in
-          let v : 0 + i ≡ i = omega arith in
-          ap cells u ∙ ap filledOne (value-of-post text j i h k) ∙ ap (λ (x : ℕ). filledOne (heightIn text j x)) (sym v))
-          in
-          ap (total cells 0) all
-          ∙ (omega (arith, total-parts cells 0 row (posts + rest), total-parts cells (0 + row) posts rest, south, north, heights))
-          ∙ sym (filled-map (heightIn text j) 0 posts)
-
-  columns-filled : total (filledColumn text) 0 (columnsIn text) ≡ total (λ j. filledIn (heightsIn text j)) 0 (profilesIn text)
-  columns-filled = by-test (ltb (startOf text 0) (blocksIn text)) begun unbegun
-    where
-      heights : ℕ → ℕ
-      heights j = filledIn (heightsIn text j)
-
-      unbegun : ltb (startOf text 0) (blocksIn text) ≡ false
-          → total (filledColumn text) 0 (columnsIn text) ≡ total heights 0 (profilesIn text)
-      unbegun e =
-          let none : (j : ℕ) → postsIn text j ≡ 0 =
-          λ j. none-yet text j (omega (arith, ltb-false (startOf text 0) (blocksIn text) e, start-order text 0 j (omega arith)))
-          in
-          let left =
-          total-none (filledColumn text) 0 (columnsIn text)
-          (λ c a b.
-          total-none (λ row. filledOne (valueAt text c row)) 0 (rowsIn text)
-          (λ row p q.
-          unfilled text c row
-          (λ t. let s = stands-for text c row t in omega (arith, s .post, none (profileAt text c)))))
-          in
-          left ∙ sym (total-none heights 0 (profilesIn text) (λ j a b. unfilled-profile text j (none j)))
-
-      begun : ltb (startOf text 0) (blocksIn text) ≡ true
-          → total (filledColumn text) 0 (columnsIn text) ≡ total heights 0 (profilesIn text)
-      begun e =
-          let p = placed-at text kept 0 (some-profiles text kept) (ltb-true (startOf text 0) (blocksIn text) e) in
-          let west = columnIn text 0 in
-          let n = profilesIn text in
-          let rest = columnsIn text - (west + n) in
-          let all : columnsIn text ≡ west + (n + rest) = omega (arith, p .room) in
-          let before = total-none (filledColumn text) 0 west (λ c a b. unfilled-column text c (λ j k q. omega (arith, b, q))) in
-          let behind = total-none (filledColumn text) (0 + west + n) rest (λ c a b. unfilled-column text c (λ j k q. omega (arith, a, k, q))) in
-          let profiles =
-          total-same (filledColumn text) heights (0 + west) 0 n
-          (λ j k.
-          let u : 0 + west + j ≡ west + j = omega arith in
-          let v : 0 + j ≡ j = omega arith in
-          ap (filledColumn text) u ∙ profile-column j k ∙ ap heights (sym v))
-          in
-          ap (total (filledColumn text) 0) all
-          ∙ (omega (arith, total-parts (filledColumn text) 0 west (n + rest), total-parts (filledColumn text) (0 + west) n rest, before, behind, profiles))
-
-  -- As many cells of the sheet are filled as posts of the text are.
-  pub filled-as-posts : (lent : List ℤ) → 1 ≤ blocksIn text
-      → filledIn (take (cellsIn text) (gridOf text lent)) ≡ filledIn (allHeights text)
-  filled-as-posts lent some =
-      let sheet = map (cellIn text) (below (cellsIn text)) in
-      let front : take (cellsIn text) (gridOf text lent) ≡ sheet =
-      ap (take (cellsIn text)) (begun-grid text lent some)
-      ∙ take-at sheet (drop (cellsIn text) lent) (cellsIn text) (sheet-length text lent)
-      in
-      let rows =
-      total-rows (λ c. filledOne (cellIn text c)) (λ c r. filledOne (valueAt text c r)) (rowsIn text) 0 (columnsIn text)
-      (λ c r k. ap₂ (λ (x y : ℕ). filledOne (valueAt text x y)) (digits-div c k) (digits-mod c k))
-      in
-      let from-first : 0 ≡ 0 * rowsIn text = omega arith in
-      ap filledIn front
-      ∙ filled-map (cellIn text) 0 (cellsIn text)
-      ∙ ap (λ (a : ℕ). total (λ c. filledOne (cellIn text c)) a (cellsIn text)) from-first
-      ∙ rows
-      ∙ columns-filled
-      ∙ sym (filled-joined (heightsIn text) 0 (profilesIn text))

@@ -19,7 +19,7 @@ use Rattle.profile.specs.RecordC.{recordC}
 use Rattle.session.specs.Session.{busy, complete}
 use Rattle.session.specs.declared.Session.{Session}
 use Rattle.ground.specs.Posts.{filledIn}
-use Rattle.ground.specs.Extremes.{filledOnly, leastOf, greatestOf}
+use Rattle.ground.specs.Extremes.{filledOnly, leastOf, greatestOf, sumOf}
 use Rattle.delivery.specs.Deliver.{fills, unless, later, further, opening, filling, nextCell, finishedSession}
 use Rattle.meaning.specs.Text.{headerIn, profilesIn, startOf, columnIn, numberOn}
 use Rattle.meaning.specs.Rules.{Breach, breach, inBlock, rule, when, firstBroken, firstBreach, sheetRules, endRules, blockRules, placeRules, endOf, blocksOfSheet, isComplete}
@@ -130,6 +130,7 @@ module _ (text more block : List ℕ) (k : ℕ) (x : Extends text more block k) 
           column = column i;
           finished = finished i;
           profile = profile i;
+          sum = sumOf (filledOnly (hs i));
         }
 
     -- no more blocks than the sheet has

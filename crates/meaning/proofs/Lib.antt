@@ -5,6 +5,7 @@ pub mod Counted
 pub mod SessionGrows
 pub mod Placed
 pub mod EachPost
+pub mod Weighing
 pub mod EachNumber
 pub mod GridGrows
 pub mod Verdicts

@@ -22,7 +22,7 @@ use Rattle.sheet.specs.RecordA.{faultOf, recordA}
 use Rattle.session.specs.Session.{sound, noProfile, begun, complete}
 use Rattle.session.specs.declared.Session.{Session}
 use Rattle.ground.specs.Posts.{void, filledIn}
-use Rattle.ground.specs.Extremes.{filledOnly, leastOf, greatestOf}
+use Rattle.ground.specs.Extremes.{filledOnly, leastOf, greatestOf, sumOf}
 use Rattle.delivery.specs.Deliver.{Verdict, Room, lend, roomOf, tooShort, answerOf, lentBy, again, wrong, begins, fills, beginning, later, nextCell, verdictOf, deliverOf}
 use Rattle.delivery.specs.declared.Answer.{Answer}
 use Rattle.delivery.specs.declared.Answer.the-variants.{Taken, Held, Refused}
@@ -146,6 +146,7 @@ module _ (text : List ℕ) (lent : List ℤ) (block : List ℕ) where
               column = c i;
               finished = f i;
               profile = p i;
+              sum = sumOf (filledOnly (sym empty i));
             })
             ∙ sym more-begun
 

@@ -16,8 +16,9 @@ use Rattle.session.specs.declared.Profile.{Profile}
 use Rattle.session.specs.declared.Session.{Session}
 use Rattle.session.specs.Session.{noProfile}
 use Rattle.ground.specs.Posts.{filledIn, postsOf}
-use Rattle.ground.specs.Extremes.{filledOnly, leastOf, greatestOf}
+use Rattle.ground.specs.Extremes.{filledOnly, leastOf, greatestOf, sumOf}
 use Rattle.ground.proofs.Heights.{heights-length}
+use Rattle.ground.proofs.Weights.{sum-on}
 use Rattle.ground.proofs.PostsRead.{posts-length}
 use Rattle.delivery.specs.Deliver.{filledSession, closedSession, readOn}
 use Rattle.meaning.specs.Text.{headerIn, allHeights, columnIn, headIn, postsIn, heightsIn, rowIn, profilesIn, zIn, startOf, roomIn}
@@ -41,6 +42,7 @@ sessionBy text closed profile =
       column = columnIn text 0;
       finished = 0;
       profile = profile;
+      sum = sumOf (filledOnly (allHeights text));
     }
 
 -- profile c is still open
@@ -124,6 +126,7 @@ module _ (text more block : List ℕ) (k : ℕ) (x : Extends text more block k) 
         column = columnIn more 0;
         finished = unfinished i;
         profile = profile-read i;
+        sum = (sym (sum-on (allHeights text) hs) ∙ ap (λ (l : List ℤ). sumOf (filledOnly l)) (sym g)) i;
       }
 
   -- ---- whether the block is the profile's last
@@ -176,6 +179,7 @@ module _ (text more block : List ℕ) (k : ℕ) (x : Extends text more block k) 
         column = w i;
         finished = f i;
         profile = p i;
+        sum = sumOf (filledOnly (allHeights more));
       }
 
   module _ (left : blocksIn more < startOf more (suc c)) where

@@ -42,6 +42,7 @@ desk2 =
             column = 0;
             finished = 0;
             profile = noProfile;
+            sum = pos 2200;
           };
       lent = lend (pos 1000 ∷ void ∷ pos 1200 ∷ void ∷ void ∷ void ∷ pos 7 ∷ []);
     }

@@ -11,7 +11,7 @@ use Rattle.session.specs.declared.Profile.{Profile}
 use Rattle.session.specs.Session.{noProfile, fresh}
 use Rattle.session.specs.declared.Session.{Session}
 use Rattle.ground.specs.Posts.{filledIn}
-use Rattle.ground.specs.Extremes.{filledOnly, leastOf, greatestOf}
+use Rattle.ground.specs.Extremes.{filledOnly, leastOf, greatestOf, sumOf}
 use Rattle.meaning.specs.Text.{startOf, profilesIn, headIn, rowIn, postsIn, heightsIn, headerIn, columnIn, allHeights, cellsIn, cellIn}
 use Rattle.meaning.specs.Rules.{hasBegun, endOf}
 
@@ -54,6 +54,7 @@ begunSession text =
       column = cond (ltb 1 (blocksIn text)) (columnIn text 0) 0;
       finished = cond (ltb (endOf text) (blocksIn text)) 1 0;
       profile = cond (isOpen text) (openProfile text (closedIn text)) noProfile;
+      sum = sumOf (filledOnly (allHeights text));
     }
 
 -- before block 0 the session is fresh and the grid as lent

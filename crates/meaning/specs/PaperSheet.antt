@@ -180,6 +180,7 @@ paperSession =
       column = 0;
       finished = 0;
       profile = noProfile;
+      sum = pos 4200;
     }
 
 -- "Cells: 1000, void, 1200, void, 1100, 900", and the cell past the sheet as lent

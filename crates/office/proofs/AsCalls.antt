@@ -21,7 +21,7 @@ use Rattle.meaning.specs.Deliveries.{Delivery, Call, Promised, Calls, noCall, c
 use Rattle.meaning.proofs.Desks.{Desk, desk, answered, after, call-desk}
 use Rattle.meaning.proofs.OneDelivery.{Stands, answer-told, stands-next}
 use Rattle.slip.specs.Slip.{handed}
-use Rattle.ledger.specs.Numbers.{kept}
+use Rattle.ledger.specs.Numbers.{kept, sessionNumbers}
 use Rattle.ledger.specs.Ledger.{sessionSaid, numbersAfterAnswer, deliveredTo, numbersLeft, gridLeft}
 use Rattle.ledger.proofs.Inverse.{said-back}
 use Rattle.office.specs.DeskCalls.{DeskCall, DeskPromised, DeskCalls, noCall as noDeskCall, called as deskCalled, numbersAfter, cellsAfter, textTaken, sentBlocks}
@@ -45,8 +45,8 @@ module _ (numbers base : List ℤ) where
   says : (v : Verdict) → sessionSaid (numbersAfterAnswer (answerOf s v .answer) (answerOf s v .session) numbers) ≡ answerOf s v .session
   says again = refl
   says (wrong kind block byte) = refl
-  says (begins h) = said-back (begun h) (drop 37 numbers)
-  says (fills after at hs) = said-back after (drop 37 numbers)
+  says (begins h) = said-back (begun h) (drop sessionNumbers numbers)
+  says (fills after at hs) = said-back after (drop sessionNumbers numbers)
 
   keeps : numbers ≡ kept s base → (v : Verdict) → numbersAfterAnswer (answerOf s v .answer) (answerOf s v .session) numbers ≡ kept (answerOf s v .session) base
   keeps e again = e

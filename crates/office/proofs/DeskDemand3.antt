@@ -11,6 +11,7 @@ use lib.ListN.{length, take, drop}
 use Rattle.laws.proofs.Tests.{by-test}
 use Rattle.ground.specs.Blocks.{blocksIn}
 use Rattle.ground.specs.Posts.{void, filledIn}
+use Rattle.ground.specs.Extremes.{filledOnly, sumOf}
 use Rattle.session.specs.declared.Session.{Session}
 use Rattle.session.specs.Session.{fresh}
 use Rattle.delivery.specs.declared.Answer.{Answer}
@@ -23,8 +24,8 @@ use Rattle.meaning.proofs.Desks.{desk}
 use Rattle.meaning.proofs.OneDelivery.{Stands, stands-first}
 use Rattle.meaning.proofs.Demand3 as Demand3
 use Rattle.slip.specs.Slip.{handed}
-use Rattle.ledger.specs.Numbers.{kept}
-use Rattle.ledger.specs.Ledger.{sessionSaid, numbersAfterAnswer}
+use Rattle.ledger.specs.Numbers.{kept, sessionNumbers}
+use Rattle.ledger.specs.Ledger.{sessionSaid, keptAt, numbersAfterAnswer}
 use Rattle.ledger.proofs.Inverse.{said-back}
 use Rattle.office.specs.DeskCalls.{OpenPromised, DeskCall, DeskPromised, DeskCalls, numbersAfter, cellsAfter, textTaken, sentBlocks}
 use Rattle.office.proofs.AsCalls.{asCall, asCalls, as-calls, as-promised, as-cells, as-sent, as-numbers, as-text, told-bytes}
@@ -33,11 +34,11 @@ use Rattle.office.proofs.AsCalls.{asCall, asCalls, as-calls, as-promise
 opened-is : (room numbers : List ℤ) → OpenPromised room 0 numbers → numbers ≡ kept fresh room
 opened-is room numbers o =
     o .keeps
-    ∙ by-test (leb 37 (length room)) (λ e. rw e)
+    ∙ by-test (leb sessionNumbers (length room)) (λ e. rw e)
     (λ e. let z : _≡_ {A = ℕ} 0 12 = rw e at (o .tells) in absurd (omega (arith, z)))
 
 opened-fresh : (room numbers : List ℤ) → OpenPromised room 0 numbers → sessionSaid numbers ≡ fresh
-opened-fresh room numbers o = ap sessionSaid (opened-is room numbers o) ∙ said-back fresh (drop 37 room)
+opened-fresh room numbers o = ap sessionSaid (opened-is room numbers o) ∙ said-back fresh (drop sessionNumbers room)
 
 -- what is not taken leaves the numbers
 left-alone : (s : Session) (v : Verdict) (numbers : List ℤ) → (answerOf s v .answer ≡ Taken → ⊥)
@@ -87,7 +88,7 @@ module _ (room numbers lent : List ℤ) (opening : OpenPromised room 0 numbers) 
 
   -- and they say that session
   pub numbers-say : sessionSaid left ≡ sessionOf text
-  numbers-say = ap sessionSaid numbers-mean ∙ said-back (sessionOf text) (drop 37 room)
+  numbers-say = ap sessionSaid numbers-mean ∙ said-back (sessionOf text) (drop sessionNumbers room)
 
   pub grid-means : grid ≡ gridOf text lent
   grid-means =
@@ -180,6 +181,17 @@ module _ (room numbers lent : List ℤ) (opening : OpenPromised room 0 numbers) 
       (subst
       (λ (t : List ℕ). 1 ≤ blocksIn t → filledIn (take (cellsIn t) (gridAfter lent (asCalls numbers lent cs))) ≡ filledPosts (allPosts t)) same-text
       (Demand3.filled-as-posts lent (asCalls numbers lent cs) as-fresh))
+
+  -- 02, request 1: number 37 is the sum of the sheet's filled cells
+  pub sum-over-cells : 1 ≤ blocksIn text → keptAt left 37 ≡ sumOf (filledOnly (take (cellsIn text) grid))
+  sum-over-cells =
+      subst (λ (g : List ℤ). 1 ≤ blocksIn text → keptAt left 37 ≡ sumOf (filledOnly (take (cellsIn text) g))) same-grid
+      (subst
+      (λ (t : List ℕ).
+      1 ≤ blocksIn t → keptAt left 37 ≡ sumOf (filledOnly (take (cellsIn t) (gridAfter lent (asCalls numbers lent cs)))))
+      same-text
+      (λ some.
+      ap (λ (l : List ℤ). keptAt l 37) kept-is ∙ Demand3.sum-over-cells lent (asCalls numbers lent cs) as-fresh some))
 
   pub lent-until-block-0 : blocksIn text ≡ 0 → grid ≡ lent
   lent-until-block-0 none =

@@ -2,7 +2,7 @@
 use mathlib.Core.Bool.{Bool, cond}
 use Prim.Native.Nat.{ℕ, _+_, _*_, zero, suc}
 use lib.Dec.{leb, eqb}
-use lib.IntN.{ℤ, natAbs}
+use lib.IntN.{ℤ, pos, natAbs}
 use mathlib.Core.List.{List, _++_}
 use lib.ListN.{length, drop, replicate, take}
 use lib.Seq.{sets}
@@ -10,6 +10,7 @@ use Rattle.laws.specs.Sign.{_and_}
 use Rattle.number.specs.Integer.{integer}
 use Rattle.field.specs.Field.{stretch}
 use Rattle.ground.specs.Posts.{judgePost, postsOf, postsRestFault, heights, tallyAll, noTally, void}
+use Rattle.ground.specs.Extremes.{filledOnly, sumOf}
 use Rattle.ground.specs.declared.Tally.{Tally}
 use Rattle.posts.specs.declared.Scan.{Scan}
 
@@ -45,6 +46,10 @@ heightsOver block byte good z datum scratch = heights z datum (postsOf good byte
 abbrev pub scratchAfter : List ℕ → ℕ → ℕ → ℕ → ℤ → List ℤ → List ℤ
 scratchAfter block byte n z datum scratch =
     cond (askable (length block) byte n z datum (length scratch)) (heightsOver block byte (goodPosts n byte block) z datum scratch) scratch
+
+-- the sum of the first n values, voids left out, where there are so many and no more than a block's posts; else 0
+abbrev pub summed : ℕ → List ℤ → ℤ
+summed n values = cond (leb n 170 and leb n (length values)) (sumOf (filledOnly (take n values))) (pos 0)
 
 -- ---- the writes to lent cells
 

@@ -1,4 +1,4 @@
-// The session after a block: its counts, its extremes and its open profile. Whether the block is good is asked elsewhere.
+// The session after a block: its counts, its extremes, its sum and its open profile. Whether the block is good is asked elsewhere.
 use ground::Tally;
 use session::Profile;
 use session::Session;
@@ -6,7 +6,7 @@ ghost use mathlib.Core.Path.{_≡_};
 ghost use mathlib.Core.Bool.{cond};
 ghost use Rattle.ground.specs.Posts.{merged};
 ghost use Rattle.delivery.specs.Deliver.{closedSession, finishedSession};
-ghost use Rattle.progress.specs.Progress.{small, countable, readWith, filledWith, Few, Counted};
+ghost use Rattle.progress.specs.Progress.{small, near, countable, readWith, filledWith, Few, Counted};
 
 // Two tallies, one behind the other.
 fn merge(t: Tally, u: Tally) -> Tally
@@ -50,9 +50,9 @@ fn read_on(p: Profile, n: u64, u: Tally) -> Profile
     }
 }
 
-fn fill_counted(s: Session, column: u64, p: Profile, n: u64, u: Tally) -> Session
-    requires { ⌜ Counted s p n u ⌝ }
-    ensures { λ r. ⌜ r ≡ filledWith s column p n u ⌝ }
+fn fill_counted(s: Session, column: u64, p: Profile, n: u64, u: Tally, sum: i64) -> Session
+    requires { ⌜ Counted s p n u sum ⌝ }
+    ensures { λ r. ⌜ r ≡ filledWith s column p n u sum ⌝ }
 {
     let header = s.header;
     let before = Tally {
@@ -73,12 +73,19 @@ fn fill_counted(s: Session, column: u64, p: Profile, n: u64, u: Tally) -> Sessio
         column,
         finished: s.finished,
         profile,
+        sum: s.sum + sum,
     }
 }
 
-// Counts that no sheet comes near are not gone on from: so every sum fits.
-fn is_countable(s: Session, p: Profile, n: u64, u: Tally) -> bool
-    ensures { λ r. ⌜ r ≡ countable s p n u ⌝ }
+fn is_near(z: i64) -> bool
+    ensures { λ r. ⌜ r ≡ near z ⌝ }
+{
+    number::size_of(z) <= 1000000000000000000
+}
+
+// Counts and sums that no sheet comes near are not gone on from: so every sum fits.
+fn is_countable(s: Session, p: Profile, n: u64, u: Tally, sum: i64) -> bool
+    ensures { λ r. ⌜ r ≡ countable s p n u sum ⌝ }
 {
     let sheet = figures::all3(
         s.taken <= 4294967296,
@@ -87,15 +94,16 @@ fn is_countable(s: Session, p: Profile, n: u64, u: Tally) -> bool
     );
     let profile = figures::both(p.read <= 4294967296, p.filled <= 4294967296);
     let block = figures::both(n <= 4294967296, u.filled <= 4294967296);
-    figures::all3(sheet, profile, block)
+    let sums = figures::both(is_near(s.sum), is_near(sum));
+    figures::all4(sheet, profile, block, sums)
 }
 
-// The session with a block more of profile p: n posts, of tally u.
-pub fn fill_session(s: Session, column: u64, p: Profile, n: u64, u: Tally) -> Session
-    ensures { λ r. ⌜ r ≡ cond (countable s p n u) (filledWith s column p n u) s ⌝ }
+// The session with a block more of profile p: n posts, of tally u, and their sum.
+pub fn fill_session(s: Session, column: u64, p: Profile, n: u64, u: Tally, sum: i64) -> Session
+    ensures { λ r. ⌜ r ≡ cond (countable s p n u sum) (filledWith s column p n u sum) s ⌝ }
 {
-    if is_countable(s, p, n, u) {
-        return fill_counted(s, column, p, n, u);
+    if is_countable(s, p, n, u, sum) {
+        return fill_counted(s, column, p, n, u, sum);
     }
     s
 }
@@ -121,6 +129,7 @@ pub fn close_session(s: Session) -> Session
         column: s.column,
         finished: s.finished,
         profile,
+        sum: s.sum,
     }
 }
 
@@ -144,5 +153,6 @@ pub fn finish_session(s: Session) -> Session
         column: s.column,
         finished: 1,
         profile,
+        sum: s.sum,
     }
 }

@@ -46,7 +46,8 @@ pub(crate) fn write_session(s: Session) {
     write_number(s.posts, b' ');
     write_number(s.filled, b' ');
     write_signed(s.low, b' ');
-    write_signed(s.high, b'\n');
+    write_signed(s.high, b' ');
+    write_signed(s.sum, b'\n');
 }
 
 pub(crate) fn write_cells(grid: &[i32]) {

@@ -6,7 +6,7 @@ use native.Mathlib.Nat.{mul-le-mul-right}
 use native.Mathlib.Omega.{arith}
 use borrow.Author.Tests.{eq-eqb, ne-eqb, eqb-true, eqb-false}
 use lib.Dec.{eqb}
-use lib.IntN.{ℤ, pos, negsuc, natAbs, _*ℤ_}
+use lib.IntN.{ℤ, pos, natAbs, _*ℤ_}
 use mir.Syntax.{w64}
 use mir.Val.{SFits}
 use Rattle.laws.specs.Sign.{sameZ}
@@ -32,10 +32,6 @@ pub scaled-fits : (z : ℤ) → natAbs z ≤ 922337203685 → SFits w64 (z *ℤ 
 scaled-fits z h =
     let m : natAbs z * 10000000 ≤ 922337203685 * 10000000 = mul-le-mul-right 10000000 h in
     size-fits (z *ℤ pos 10000000) (omega (arith, size-multiple z 10000000))
-
-pub stated-most : (z : ℤ) → SFits w64 z → natAbs z ≤ 2 ^ 63
-stated-most (pos n) f = let h : n < 2 ^ 63 = f .sfits in omega (arith, h)
-stated-most (negsuc n) f = let h : n < 2 ^ 63 = f .sfits in omega (arith, h)
 
 pub out-of-reach : (told z : ℤ) → natAbs told ≤ 2 ^ 63 → 922337203685 < natAbs z → sameZ told (z *ℤ pos 10000000) ≡ false
 out-of-reach told z f h =

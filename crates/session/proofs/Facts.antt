@@ -105,6 +105,7 @@ pub record Begun (s : Session) : Type 0 where
   pub taken-most : s .taken ≤ 1 + 13 * s .closed + openBlocks s + s .finished
   pub extremes : 0 < s .filled → Running (s .low) (s .high)
   pub profile-extremes : busy s ≡ true → 0 < s .profile .filled → Running (s .profile .low) (s .profile .high)
+  pub sum : natAbs (s .sum) ≤ s .filled * 4276700
 
 module _ (s : Session) where
   pub closed-facts : closedObeys s ≡ true
@@ -140,6 +141,7 @@ module _ (s : Session) where
       let posts = split (postsObey s) _ (finish .1) in
       let taken = split (takenObeys s) _ (posts .1) in
       let extremes = split (extremesObey (s .filled) (s .low) (s .high)) _ (taken .1) in
+      let running = split (implies (busy s) (extremesObey (s .profile .filled) (s .profile .low) (s .profile .high))) _ (extremes .1) in
       let least = split (leb (s .closed + openRead s) (s .posts)) _ (posts .0) in
       let most = split (leb (s .posts) (2048 * s .closed + openRead s)) _ (least .1) in
       let filled = split (leb (s .filled) (s .posts)) _ (most .1) in
@@ -161,7 +163,8 @@ module _ (s : Session) where
         taken-most = leb-true (s .taken) (1 + 13 * s .closed + openBlocks s + s .finished) (from .1);
         extremes = extremes-facts (s .filled) (s .low) (s .high) (extremes .0);
         profile-extremes =
-            λ b. extremes-facts (s .profile .filled) (s .profile .low) (s .profile .high) (asked (busy s) _ (extremes .1) b);
+            λ b. extremes-facts (s .profile .filled) (s .profile .low) (s .profile .high) (asked (busy s) _ (running .0) b);
+        sum = leb-true (natAbs (s .sum)) (s .filled * 4276700) (running .1);
       }
 
   pub facts-begun : Begun s → begunObeys s ≡ true
@@ -191,5 +194,7 @@ module _ (s : Session) where
       (and-both (le-leb (1 + s .closed + openBlocks s + s .finished) (s .taken) (f .taken-least))
       (le-leb (s .taken) (1 + 13 * s .closed + openBlocks s + s .finished) (f .taken-most)))
       (and-both (facts-extremes (s .filled) (s .low) (s .high) (f .extremes))
+      (and-both
       (unasked (busy s) _
-      (λ b. facts-extremes (s .profile .filled) (s .profile .low) (s .profile .high) (f .profile-extremes b))))))))))
+      (λ b. facts-extremes (s .profile .filled) (s .profile .low) (s .profile .high) (f .profile-extremes b)))
+      (le-leb (natAbs (s .sum)) (s .filled * 4276700) (f .sum))))))))))

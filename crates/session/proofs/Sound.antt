@@ -53,6 +53,7 @@ fresh-is s t =
     let high = split (isZero (s .high)) _ (low .1) in
     let column = split (eqb (s .column) 0) _ (high .1) in
     let finished = split (eqb (s .finished) 0) _ (column .1) in
+    let profile = split (zeroProfile (s .profile)) _ (finished .1) in
     λ j.
     record {
       header = header-is (s .header) (header .0) j;
@@ -64,7 +65,8 @@ fresh-is s t =
       high = is-zero (s .high) (high .0) j;
       column = eqb-true (s .column) 0 (column .0) j;
       finished = eqb-true (s .finished) 0 (finished .0) j;
-      profile = profile-is (s .profile) (finished .1) j;
+      profile = profile-is (s .profile) (profile .0) j;
+      sum = is-zero (s .sum) (profile .1) j;
     }
 
 pub fresh-exactly : (s : Session) → (isFresh s ≡ true) ↔ (s ≡ fresh)

@@ -32,6 +32,7 @@ unread h taken =
       column = 0;
       finished = 0;
       profile = noProfile;
+      sum = pos 0;
     }
 
 abbrev pub fresh : Session
@@ -46,6 +47,7 @@ abbrev pub isFresh : Session → Bool
 isFresh s =
     zeroHeader (s .header) and eqb (s .taken) 0 and eqb (s .closed) 0 and eqb (s .posts) 0 and eqb (s .filled) 0
     and isZero (s .low) and isZero (s .high) and eqb (s .column) 0 and eqb (s .finished) 0 and zeroProfile (s .profile)
+    and isZero (s .sum)
 
 -- ---- the clauses of "A session is sound exactly if .."
 
@@ -71,6 +73,10 @@ openBlocks s = cond (busy s) ((s .profile .read - 146) / 170 + 1) 0
 abbrev pub extremesObey : ℕ → ℤ → ℤ → Bool
 extremesObey filled low high =
     implies (ltb 0 filled) (leZ low high and leb (natAbs low) 4276700 and leb (natAbs high) 4276700)
+
+-- 02, request 1: the sum no further from zero than so many filled cells can bring it
+abbrev pub sumObeys : ℕ → ℤ → Bool
+sumObeys filled sum = leb (natAbs sum) (filled * 4276700)
 
 -- "profiles closed": n at most, and fewer while one is open
 abbrev pub closedObeys : Session → Bool
@@ -104,7 +110,7 @@ abbrev pub begunObeys : Session → Bool
 begunObeys s =
     headerObeys (s .header) and closedObeys s and implies (busy s) (profileObeys (s .header) (s .profile)) and columnObeys s
     and finishObeys s and postsObey s and takenObeys s and extremesObey (s .filled) (s .low) (s .high)
-    and implies (busy s) (extremesObey (s .profile .filled) (s .profile .low) (s .profile .high))
+    and implies (busy s) (extremesObey (s .profile .filled) (s .profile .low) (s .profile .high)) and sumObeys (s .filled) (s .sum)
 
 unfoldable pub sound : Session → Bool
 sound s = cond (isFresh s) true (begunObeys s)

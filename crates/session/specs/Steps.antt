@@ -6,7 +6,7 @@ use Rattle.laws.specs.Sign.{_and_, implies}
 use Rattle.heading.specs.Heading.{headerObeys}
 use Rattle.session.specs.declared.Profile.{Profile}
 use Rattle.session.specs.declared.Session.{Session}
-use Rattle.session.specs.Session.{busy, closedObeys, profileObeys, columnObeys, finishObeys, postsObey, takenObeys, extremesObey, openRead}
+use Rattle.session.specs.Session.{busy, closedObeys, profileObeys, columnObeys, finishObeys, postsObey, takenObeys, extremesObey, sumObeys, openRead}
 
 abbrev pub readObeys : Profile → Bool
 readObeys p = leb 146 (p .read) and eqb ((p .read - 146) % 170) 0 and ltb (p .read) (p .posts)
@@ -20,7 +20,7 @@ placesObey s =
 abbrev pub countsObey : Session → Bool
 countsObey s =
     postsObey s and takenObeys s and extremesObey (s .filled) (s .low) (s .high)
-    and implies (busy s) (extremesObey (s .profile .filled) (s .profile .low) (s .profile .high))
+    and implies (busy s) (extremesObey (s .profile .filled) (s .profile .low) (s .profile .high)) and sumObeys (s .filled) (s .sum)
 
 pub record Bounded (s : Session) : Type 0 where
   pub closed : s .closed ≤ 2048

@@ -11,7 +11,7 @@ ghost use mathlib.Core.Path.{_≡_};
 ghost use Prim.Native.Nat.{_+_};
 ghost use lib.Dec.{leb};
 ghost use lib.IntN.{natAbs};
-ghost use Rattle.session.specs.Session.{busy, profileObeys, openRead, extremesObey, closedObeys, columnObeys, postsObey, finishObeys, takenObeys, begunObeys};
+ghost use Rattle.session.specs.Session.{busy, profileObeys, openRead, extremesObey, sumObeys, closedObeys, columnObeys, postsObey, finishObeys, takenObeys, begunObeys};
 ghost use Rattle.session.specs.Steps.{readObeys, placesObey, countsObey, Bounded};
 
 fn is_busy(s: Session) -> bool
@@ -72,6 +72,13 @@ fn extremes_obey(filled: u64, low: i64, high: i64) -> bool
         0 < filled,
         all3(low <= high, is_extreme(low), is_extreme(high)),
     )
+}
+
+// Asked of any numbers: the product of the bound is not formed, since it could pass 64 bits.
+fn sum_obeys(filled: u64, sum: i64) -> bool
+    ensures { λ r. ⌜ r ≡ sumObeys filled sum ⌝ }
+{
+    (number::size_of(sum) + 4276699) / 4276700 <= filled
 }
 
 fn closed_obeys(s: Session) -> bool
@@ -158,7 +165,7 @@ fn counts_obey(s: Session) -> bool
         posts_obey(s),
         taken_obeys(s),
         extremes_obey(s.filled, s.low, s.high),
-        profile,
+        both(profile, sum_obeys(s.filled, s.sum)),
     )
 }
 

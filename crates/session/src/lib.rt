@@ -20,8 +20,8 @@ pub struct Profile {
     pub high: i64,
 }
 
-// Blocks taken, profiles closed, posts and filled posts with their extremes in hundredths, the first profile's column, and
-// whether record C was taken.
+// Blocks taken, profiles closed, posts and filled posts with their extremes in hundredths, the first profile's column,
+// whether record C was taken, and the sum of the filled posts' heights in hundredths.
 pub struct Session {
     pub header: Header,
     pub taken: u64,
@@ -33,6 +33,7 @@ pub struct Session {
     pub column: u64,
     pub finished: u64,
     pub profile: Profile,
+    pub sum: i64,
 }
 
 pub fn new() -> Session
@@ -79,6 +80,7 @@ pub fn new() -> Session
         column: 0,
         finished: 0,
         profile,
+        sum: 0,
     }
 }
 

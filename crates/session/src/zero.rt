@@ -3,6 +3,7 @@ use crate::Profile;
 use crate::Session;
 use figures::all3;
 use figures::all4;
+use figures::both;
 use figures::is_zero;
 ghost use mathlib.Core.Path.{_≡_};
 ghost use Rattle.session.specs.Session.{zeroProfile, isFresh};
@@ -24,7 +25,7 @@ pub(crate) fn is_fresh(s: Session) -> bool
         is_zero(s.high),
         s.column == 0,
         s.finished == 0,
-        zero_profile(p),
+        both(zero_profile(p), is_zero(s.sum)),
     );
     let counts = all4(s.posts == 0, s.filled == 0, is_zero(s.low), places);
     all4(heading::zero_header(h), s.taken == 0, s.closed == 0, counts)

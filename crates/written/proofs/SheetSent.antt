@@ -1,6 +1,6 @@
 -- The sheet by its columns, and the column of each block. Carried by: a column is rows cells of the grid, and starts rise.
 use mathlib.Core.Bool.{true, false}
-use mathlib.Core.List.{List, _++_, map, [], _∷_}
+use mathlib.Core.List.{List, _++_, map}
 use mathlib.Core.Path.{_≡_, sym, _∙_, ap, refl, ap₂}
 use Prim.Native.Nat.{ℕ, zero, suc, _+_, _*_, _≤_, _<_, _-_}
 use native.Mathlib.Nat.{suc-mul, mul-le-mul-right, add-zero}
@@ -12,12 +12,12 @@ use lib.Seq.{getD-take, getD-drop, take-add, drop-drop, length-take-le}
 use borrow.Author.Tests.{eqb-true, eqb-false, leb-true, leb-false, le-leb, lt-leb, ltb-true, ltb-false}
 use lib.Dec.{leb, ltb, eqb}
 use Rattle.laws.specs.Lists.{from, below, joined}
-use Rattle.laws.specs.Sign.{sameZ}
 use Rattle.laws.proofs.Tests.{by-test}
 use Rattle.frame.specs.Frame.{columnsOf, rowsOf, cellsOf}
 use Rattle.frame.specs.declared.Header.{Header}
 use Rattle.ground.specs.Posts.{void, blocksFor}
 use Rattle.ground.specs.Extremes.{filledOnly, leastOf, greatestOf, leastStated, greatestStated}
+use Rattle.ground.proofs.Weights.{filled-parts}
 use Rattle.written.specs.Cells.{canSend, sendable, columnCells, cellsSent, columnAt, profileCells, startAt, columnFor}
 use Rattle.written.specs.Blocks.{sheetCells}
 use Rattle.written.proofs.ColumnsSent.{each-sends, all-send, filled-sent}
@@ -82,19 +82,13 @@ module _ (h : Header) (grid : List ℤ) where
 
 -- ---- what is filled
 
-filled-append : (xs ys : List ℤ) → filledOnly (xs ++ ys) ≡ filledOnly xs ++ filledOnly ys
-filled-append [] ys = refl
-filled-append (x ∷ xs) ys =
-    let rest = filled-append xs ys in
-    by-test (sameZ x void) (λ e. rw e rest) (λ e. rw e (ap (λ (l : List ℤ). x ∷ l) rest))
-
 filled-joined : (f g : ℕ → List ℤ) → ((i : ℕ) → filledOnly (f i) ≡ filledOnly (g i))
     → (a n : ℕ) → filledOnly (joined (map f (from a n))) ≡ filledOnly (joined (map g (from a n)))
 filled-joined f g h a zero = refl
 filled-joined f g h a (suc n) =
-    filled-append (f a) (joined (map f (from (suc a) n)))
+    filled-parts (f a) (joined (map f (from (suc a) n)))
     ∙ ap₂ (λ (xs ys : List ℤ). xs ++ ys) (h a) (filled-joined f g h (suc a) n)
-    ∙ sym (filled-append (g a) (joined (map g (from (suc a) n))))
+    ∙ sym (filled-parts (g a) (joined (map g (from (suc a) n))))
 
 module _ (h : Header) (grid : List ℤ) where
   -- the profiles sent hold all that is filled in the sheet, in its order

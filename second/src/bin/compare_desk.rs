@@ -6,7 +6,7 @@
 use second::asking::Asking;
 use second::block::Record;
 use second::comparing::{arguments, finish, number, Counts};
-use second::crafted::{self, Crafted};
+use second::crafted::{self, sums, Crafted};
 use second::desk::{self, Call, Delivery, Left};
 use second::dice::Dice;
 use second::kept::clauses::{self, CLAUSES, NEGATIVE, TOO_FEW};
@@ -38,6 +38,8 @@ struct Run {
     broken: Counts,
     /// Numbers that were altered alone, and what the session then was.
     altered: Counts,
+    /// What deliveries to crafted sessions and of sheets showed about the sum.
+    sums: Counts,
     sessions: Counts,
     /// What was lent, and what came of it.
     lent: Counts,
@@ -60,6 +62,7 @@ impl Run {
             of_sheets: Counts::default(),
             broken: Counts::default(),
             altered: Counts::default(),
+            sums: Counts::default(),
             sessions: Counts::default(),
             lent: Counts::default(),
             blocks: Counts::default(),
@@ -100,6 +103,7 @@ impl Run {
         for name in lent_names(&delivery, left.told.result) {
             self.lent.see(name);
         }
+        self.see_sum(&delivery, &left);
         let broken = clauses::broken(&delivery.numbers);
         if let [clause] = broken[..] {
             self.broken.see(clause);
@@ -111,6 +115,12 @@ impl Run {
         self.ask_about(dice, &delivery.numbers);
         if left.told.result == kept::DONE {
             self.ask_about(dice, &left.numbers);
+        }
+    }
+
+    fn see_sum(&mut self, delivery: &Delivery, left: &Left) {
+        for name in sums::shown(delivery, left) {
+            self.sums.see(name);
         }
     }
 
@@ -136,6 +146,7 @@ impl Run {
         presses::all(dice, &mut |delivery: Delivery, left: Left| {
             self.families.see("whole sheets over a poor line");
             self.of_sheets.see(name_of(left.told.result));
+            self.see_sum(&delivery, &left);
             self.desk.ask(delivery.call(&left));
             self.ask_about(&mut ask_dice, &left.numbers);
         });
@@ -198,6 +209,7 @@ impl Run {
         self.altered
             .print("  this number altered alone", &altered_names());
         self.lent.print("  lent", &all_lent_names());
+        self.sums.print("the sum", &sums::sights());
         self.sessions.print("sound, complete, report", &SESSIONS);
         self.of_sheets
             .print("whole sheets over a poor line", &answers_of_sheets());
@@ -229,6 +241,7 @@ impl Run {
         found.extend(self.crafted.never_seen(&answers()));
         found.extend(self.broken.never_seen(&broken_alone()));
         found.extend(self.altered.never_seen(&altered_names()));
+        found.extend(self.sums.never_seen(&sums::sights()));
         found.extend(self.sessions.never_seen(&SESSIONS));
         found.extend(self.lent.never_seen(&all_lent_names()));
         found.extend(self.of_sheets.never_seen(&answers_of_sheets()));

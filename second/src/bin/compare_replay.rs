@@ -3,8 +3,9 @@
 //! or too little was compared. Usage: compare_replay PROGRAM [SEED] [SCRIPTS]
 
 use second::block::Record;
-use second::comparing::{self, line_difference, Asked, Mismatch};
+use second::comparing::{self, line_difference, Asked, Counts, Mismatch};
 use second::load::Answer;
+use second::meaning::Figures;
 use second::replay::{self, Event, Outcome};
 use second::scripts::accident::THE_CUSTOMERS_ACCIDENT;
 use second::scripts::{self, FAMILIES};
@@ -29,12 +30,14 @@ struct Tally {
     last_answers: BTreeMap<i64, usize>,
     /// By awaited record, kind and byte; posts and rests together under ANY_BYTE.
     places: BTreeMap<Place, usize>,
+    /// What the sums in the session lines were.
+    sums: Counts,
 }
 
 impl Tally {
     fn add(&mut self, family: &'static str, outcome: &Outcome) {
         self.scripts += 1;
-        self.bad_scripts += usize::from(outcome.bad);
+        self.bad_scripts += usize::from(outcome.bad());
         *self.families.entry(family).or_default() += 1;
         for event in &outcome.events {
             let (kind, byte) = kind_and_byte(event);
@@ -42,11 +45,49 @@ impl Tally {
             let place = (event.awaited, kind, byte);
             *self.places.entry(place).or_default() += 1;
         }
-        if let (Some(event), false) = (outcome.events.last(), outcome.bad) {
+        if let (Some(event), Some(figures)) = (outcome.events.last(), &outcome.figures) {
             let (kind, _) = kind_and_byte(event);
             *self.last_answers.entry(kind).or_default() += 1;
+            let seen = SUMS.iter().filter(|(_, seen)| seen(event, figures));
+            for (name, _) in seen {
+                self.sums.see(*name);
+            }
         }
     }
+}
+
+/// What a script's last delivery met and what its session line then says.
+type Sight = (&'static str, fn(&Event, &Figures) -> bool);
+
+/// Sums that some script must have ended with.
+const SUMS: [Sight; 9] = [
+    ("above zero", |_, f| f.sum > 0),
+    ("below zero", |_, f| f.sum < 0),
+    ("zero, with cells filled", |_, f| f.sum == 0 && f.filled > 0),
+    ("past 32 bits above zero", |_, f| {
+        f.sum > i64::from(i32::MAX)
+    }),
+    ("past 32 bits below zero", |_, f| {
+        f.sum < i64::from(i32::MIN)
+    }),
+    ("with voids among the posts", |_, f| {
+        f.sum != 0 && f.filled < f.posts
+    }),
+    ("with a profile left open", |event, f| {
+        let within = event.awaited == Some(Record::ProfileRest);
+        within && event.answer != Answer::Taken && f.sum != 0
+    }),
+    ("refused by a closing rule", |event, f| {
+        kind_and_byte(event).0 == 11 && f.sum != 0
+    }),
+    ("after a record C", |event, f| {
+        let last = event.awaited == Some(Record::Statistics);
+        last && event.answer == Answer::Taken && f.sum != 0
+    }),
+];
+
+fn sums_wanted() -> [&'static str; SUMS.len()] {
+    SUMS.map(|(name, _)| name)
 }
 
 fn kind_and_byte(event: &Event) -> (i64, u32) {
@@ -152,6 +193,8 @@ fn shortcomings(tally: &Tally) -> Vec<String> {
             found.push(format!("{} {record:?} at {byte} never seen", name_of(kind)));
         }
     }
+    let unseen = tally.sums.never_seen(&sums_wanted());
+    found.extend(unseen.iter().map(|name| format!("sum {name}")));
     for family in FAMILIES {
         if !tally.families.contains_key(family.name) {
             found.push(format!("no script of family {}", family.name));
@@ -190,6 +233,7 @@ fn print_tables(tally: &Tally) {
             .sum();
         println!("{:<28} {times:>7}", format!("  11 at byte {byte}"));
     }
+    tally.sums.print("sums at the end", &sums_wanted());
     let accidents = tally.families.get(THE_CUSTOMERS_ACCIDENT).unwrap_or(&0);
     println!("run: {THE_CUSTOMERS_ACCIDENT}, {accidents} times");
 }

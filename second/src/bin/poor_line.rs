@@ -160,6 +160,9 @@ impl<'a> Sending<'a> {
         demand(state == State::of(&self.sheet.text[..taken]), || {
             format!("the state is not what the first {taken} blocks mean")
         })?;
+        demand(state.sum_is_that_of_the_cells(), || {
+            "the state's sum is not that of its cells".to_string()
+        })?;
         self.kept = Some(state);
         Ok(())
     }

@@ -1,12 +1,12 @@
 //! The button's state file, as the comment in `examples/load.c` lays it out: a mark, the
 //! session's numbers and the cells, each with their count before them, and two sums.
 
-use crate::kept::{Kept, NUMBERS};
-use crate::meaning::{self, Block};
+use crate::kept::clauses::FURTHEST;
+use crate::kept::{place, Kept, NUMBERS};
+use crate::meaning::{self, sum_of_cells, Block};
 
 const MARK: &[u8; 8] = b"DEMLOAD1";
 const NUMBERS_AT: usize = 12;
-const TAKEN: usize = 20;
 
 #[derive(Clone, Debug, PartialEq)]
 pub struct State {
@@ -61,7 +61,12 @@ impl State {
     }
 
     pub fn taken(&self) -> usize {
-        self.numbers[TAKEN] as usize
+        self.numbers[place::TAKEN] as usize
+    }
+
+    /// The cells are those of the sheet and no more, so the session's sum is theirs.
+    pub fn sum_is_that_of_the_cells(&self) -> bool {
+        self.numbers[place::SUM] == sum_of_cells(&self.cells)
     }
 }
 
@@ -91,8 +96,12 @@ pub fn spoilt(state: &State) -> Vec<(&'static str, Vec<u8>)> {
         let numbers = state.numbers.clone();
         State { numbers, cells }.bytes()
     };
-    let mut unsound = state.numbers.clone();
-    unsound[TAKEN] = -1;
+    let with_number = |place: usize, number: i64| {
+        let mut numbers = state.numbers.clone();
+        numbers[place] = number;
+        with_numbers(numbers)
+    };
+    let too_far = state.numbers[place::FILLED] * FURTHEST + 1;
     let last_cell = whole.len() - 17;
     vec![
         ("empty", Vec::new()),
@@ -104,10 +113,18 @@ pub fn spoilt(state: &State) -> Vec<(&'static str, Vec<u8>)> {
         ("a changed sum", changed(whole.len() - 1)),
         ("a number fewer", with_numbers(state.numbers[1..].to_vec())),
         (
+            "no sum of heights, as an older button left it",
+            with_numbers(state.numbers[..place::SUM].to_vec()),
+        ),
+        (
             "a number more",
             with_numbers([&state.numbers[..], &[0]].concat()),
         ),
-        ("unsound", with_numbers(unsound)),
+        ("unsound", with_number(place::TAKEN, -1)),
+        (
+            "unsound by the sum of heights",
+            with_number(place::SUM, too_far),
+        ),
         ("a cell fewer", with_cells(state.cells[1..].to_vec())),
         ("a cell more", with_cells([&state.cells[..], &[0]].concat())),
     ]

@@ -45,6 +45,9 @@ fn bounds(kept: &Kept, place: usize) -> Vec<i64> {
             room_for_n(kept),
         ],
         20..=27 => bounds_of_the_sheet(kept, place),
+        37 => [-1, 1]
+            .map(|sign| sign * kept.running.filled * FURTHEST)
+            .to_vec(),
         _ => bounds_of_the_profile(kept, place),
     }
 }
@@ -107,7 +110,12 @@ fn bounds_of_the_sheet(kept: &Kept, place: usize) -> Vec<i64> {
             (kept.taken - 1 - blocks) / 13,
         ],
         22 => vec![closed + read, MOST * closed + read, kept.running.filled],
-        23 => vec![kept.posts, kept.open.read],
+        // The last is the fewest that bear the sum.
+        23 => vec![
+            kept.posts,
+            kept.open.read,
+            (kept.sum.abs() + FURTHEST - 1) / FURTHEST,
+        ],
         24 => vec![-FURTHEST, FURTHEST, kept.running.high],
         25 => vec![-FURTHEST, FURTHEST, kept.running.low],
         26 => vec![columns(kept).count() - n, columns(kept).count()],

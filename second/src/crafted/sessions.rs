@@ -73,6 +73,7 @@ pub fn before_the_last_profile(dice: &mut Dice, header: &Header) -> Kept {
     kept.posts = MOST * kept.closed;
     kept.taken = 1 + 13 * kept.closed;
     kept.running = running(dice, kept.posts);
+    kept.sum = sum(dice, kept.running.filled);
     kept
 }
 
@@ -126,7 +127,7 @@ fn open(dice: &mut Dice, rows: i64) -> Open {
     }
 }
 
-/// Posts, taken and filled, anywhere between the least and the most there can be.
+/// Posts, taken, filled and sum, anywhere between the least and the most there can be.
 fn count(dice: &mut Dice, kept: &mut Kept) {
     let (blocks, read) = match kept.has_open() {
         true => (blocks_of(kept.open.read), kept.open.read),
@@ -135,6 +136,13 @@ fn count(dice: &mut Dice, kept: &mut Kept) {
     kept.posts = between(dice, kept.closed, MOST * kept.closed) + read;
     kept.taken = 1 + between(dice, kept.closed, 13 * kept.closed) + blocks;
     kept.running = running(dice, kept.posts);
+    kept.sum = sum(dice, kept.running.filled);
+}
+
+/// Whatever the extremes are: no clause ties the sum to them.
+fn sum(dice: &mut Dice, filled: i64) -> i64 {
+    let reach = filled * FURTHEST;
+    between(dice, -reach, reach)
 }
 
 fn running(dice: &mut Dice, posts: i64) -> Running {

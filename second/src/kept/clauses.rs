@@ -1,5 +1,6 @@
-//! When the numbers of a session are sound (01, "What a delivery answers"): clause by
-//! clause, each with a name, so that a run can tell which of them it has seen broken.
+//! When the numbers of a session are sound (01, "What a delivery answers"; 02, request 1, for
+//! the sum): clause by clause, each with a name, so that a run can tell which of them it has
+//! seen broken.
 
 use super::{blocks_of, Kept, Open, Running, NUMBERS};
 use crate::block::{HUNDREDTH, UNIT};
@@ -14,8 +15,9 @@ const MOST_BLOCKS: i64 = 13;
 /// A real has at most so many digits from its first to its last that is not zero.
 const DIGITS: usize = 15;
 
-pub const TOO_FEW: &str = "37 numbers or more";
+pub const TOO_FEW: &str = "38 numbers or more";
 pub const NEGATIVE: &str = "no unsigned number below zero";
+pub const SUM: &str = "sum within reach of the filled";
 
 type Clause = (&'static str, fn(&Kept) -> bool);
 
@@ -118,11 +120,19 @@ pub const CLAUSES: &[Clause] = &[
     ("open: high within reach", |k| {
         open(k).is_none_or(|open| high_within_reach(&open.running))
     }),
+    (SUM, |k| wide(k.sum).abs() <= reach_of_sum(k.running.filled)),
 ];
 
-/// Numbers that a session keeps with a sign: corners, stated and running extremes, datum.
+/// How far from zero the sum of so many filled cells may lie. Neither their extremes nor the
+/// open profile's have a say in it (READINGS-02, 1.2).
+pub fn reach_of_sum(filled: i64) -> i128 {
+    wide(filled) * wide(FURTHEST)
+}
+
+/// Numbers that a session keeps with a sign: corners, stated and running extremes, datum,
+/// sum.
 pub fn is_signed(place: usize) -> bool {
-    matches!(place, 5..=14 | 24 | 25 | 30..=32 | 35 | 36)
+    matches!(place, 5..=14 | 24 | 25 | 30..=32 | 35..=37)
 }
 
 /// The names of the clauses that these numbers break; none if they are sound.

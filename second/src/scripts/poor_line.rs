@@ -20,7 +20,7 @@ pub fn long_profiles(dice: &mut Dice) -> Script {
 
 /// Before each block, mishaps as long as a roll of a hundred stays within `often`; at
 /// the end a few more, when the sheet is complete.
-fn over_a_poor_line(dice: &mut Dice, plan: &Plan, often: i64) -> Script {
+pub fn over_a_poor_line(dice: &mut Dice, plan: &Plan, often: i64) -> Script {
     let mut line = Line::open(dice, plan);
     let count = line.blocks.len();
     for number in 0..count {

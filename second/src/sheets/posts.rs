@@ -8,6 +8,10 @@ use crate::profile::VOID_POST;
 /// Lengths at which a profile's blocks come out just full, and the ones beside them.
 pub const LENGTHS: [i64; 9] = [1, 146, 147, 316, 317, 486, 487, 1201, 2048];
 
+/// Post and datum of the highest and of the deepest ground at a z spacing of 1; a post of
+/// -32767 would be void.
+pub const OUTERMOST: [(i64, i64); 2] = [(32767, 1_000_000), (-32766, -1_000_000)];
+
 /// The posts of one profile; the datum is in hundredths.
 #[derive(Clone, Debug)]
 pub struct Run {

@@ -1,8 +1,10 @@
 //! What the tests share: the sheet of document 01, "The lister, and one sheet", typed out
-//! field by field, sessions that have taken blocks, and how families of inputs are tested.
+//! field by field, a sheet of one long column, sessions that have taken blocks, and how
+//! families of inputs are tested.
 
 #![allow(dead_code)]
 
+use second::kept::{self, Told, DONE, NAMES, NUMBERS};
 use second::load::{deliver, Answer, Session};
 use second::meaning::Figures;
 use second::turns::{Family, Made, ALL_SHARES};
@@ -89,6 +91,67 @@ pub fn paper_blocks() -> Vec<Vec<u8>> {
     vec![paper_header(), first, second]
 }
 
+/// Hundredths as a text with two decimals, in a real field of 24 bytes.
+fn units(hundredths: i64) -> String {
+    let sign = if hundredths < 0 { "-" } else { "" };
+    let size = hundredths.abs();
+    format!("{:24}", format!("{sign}{}.{:02}", size / 100, size % 100))
+}
+
+/// A record A of one column of 2048 rows, with these extremes in hundredths; z spacing 1.
+pub fn column_header(least: i64, greatest: i64) -> Vec<u8> {
+    let mut header = paper_header();
+    for (place, corner) in [0, 0, 0, 2047, 1, 2047, 1, 0].iter().enumerate() {
+        put(&mut header, 547 + place * 24, &units(corner * 100));
+    }
+    put(&mut header, 739, &units(least));
+    put(&mut header, 763, &units(greatest));
+    put(&mut header, 829, "         1.0");
+    put(&mut header, 859, "     1");
+    header
+}
+
+/// The blocks of its profile: 146 posts in the first, 170 in each further one. Datum and
+/// extremes are in hundredths.
+pub fn column_blocks(posts: &[i64], datum: i64, least: i64, greatest: i64) -> Vec<Vec<u8>> {
+    let mut blocks = vec![block_of(&[
+        (1, "     1     1"),
+        (13, &format!("{:6}     1", posts.len())),
+        (25, &units(0)),
+        (49, &units(0)),
+        (73, &units(datum)),
+        (97, &units(least)),
+        (121, &units(greatest)),
+    ])];
+    let mut byte = 145;
+    for post in posts {
+        if byte == 1021 {
+            blocks.push(vec![b' '; 1024]);
+            byte = 1;
+        }
+        let block = blocks.last_mut().expect("never empty");
+        put(block, byte, &format!("{post:6}"));
+        byte += 6;
+    }
+    blocks
+}
+
+/// A profile of 200 posts, the numbers from 1 on, with a datum of 2.50.
+pub fn two_hundred_posts() -> Vec<Vec<u8>> {
+    let posts: Vec<i64> = (1..=200).collect();
+    let mut blocks = vec![column_header(350, 20_250)];
+    blocks.extend(column_blocks(&posts, 250, 350, 20_250));
+    blocks
+}
+
+/// A profile of 2048 posts, all of them this one; the datum is in hundredths.
+pub fn level_column(post: i64, datum: i64) -> Vec<Vec<u8>> {
+    let height = post * 100 + datum;
+    let mut blocks = vec![column_header(height, height)];
+    blocks.extend(column_blocks(&[post; 2048], datum, height, height));
+    blocks
+}
+
 /// The paper's sheet with a record C to come, up to and without that record.
 pub fn blocks_before_statistics() -> Vec<Vec<u8>> {
     let mut blocks = paper_blocks();
@@ -114,6 +177,38 @@ pub fn after(blocks: &[impl AsRef<[u8]>], room: usize) -> (Session, Vec<i32>) {
     (session, grid)
 }
 
+/// The same for a session kept as numbers.
+pub fn numbers_after(blocks: &[Vec<u8>], room: usize) -> (Vec<i64>, Vec<i32>) {
+    let (mut numbers, mut grid) = (vec![0; NUMBERS], vec![7; room]);
+    for (number, block) in blocks.iter().enumerate() {
+        let answer = kept::deliver(&mut numbers, number as u32, block, &mut grid);
+        assert_eq!(answer, told(DONE, 0, 0), "block {number}");
+    }
+    (numbers, grid)
+}
+
+pub fn told(result: u32, block: u32, byte: u32) -> Told {
+    Told {
+        result,
+        block,
+        byte,
+    }
+}
+
+/// The place of a number by its name.
+pub fn place(name: &str) -> usize {
+    let found = NAMES.iter().position(|&known| known == name);
+    found.expect("a number of a session")
+}
+
+pub fn with(numbers: &[i64], changes: &[(&str, i64)]) -> Vec<i64> {
+    let mut changed = numbers.to_vec();
+    for &(name, value) in changes {
+        changed[place(name)] = value;
+    }
+    changed
+}
+
 /// The cells and counts that the paper gives for its sheet; no cell past it is touched.
 pub fn demand_the_papers_sheet(blocks: &[Vec<u8>]) {
     let (session, grid) = after(blocks, 8);
@@ -125,6 +220,7 @@ pub fn demand_the_papers_sheet(blocks: &[Vec<u8>]) {
         filled: 4,
         least: 900,
         greatest: 1200,
+        sum: 4200,
     };
     assert_eq!(session.figures(), figures);
     assert_eq!(session.taken(), 3);

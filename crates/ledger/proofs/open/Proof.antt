@@ -7,6 +7,7 @@ use borrow.Author.Tests.{le-leb, lt-leb}
 use lib.Dec.{leb}
 use lib.ListN.{length, drop}
 use Rattle.session.specs.declared.Session.{Session}
+use Rattle.ledger.specs.Numbers.{sessionNumbers}
 use Rattle.ledger.specs.Steps.{rowOf}
 use borrow.Author.Needs.{needs}
 use Rattle.ledger.proofs.open.Statement.{statement}
@@ -15,7 +16,7 @@ use Rattle.ledger.proofs.open.Tie as tie
 returns : tie.Need-returns
 returns c =
     let numbers = c .before .args .numbers .now in
-    let e : leb 37 (length numbers) ≡ false = lt-leb 37 (length numbers) (omega arith) in
+    let e : leb sessionNumbers (length numbers) ≡ false = lt-leb sessionNumbers (length numbers) (omega arith) in
     rw e (refl, refl)
 
 new-requires : tie.Need-new-requires
@@ -32,8 +33,8 @@ returns-2 c =
     let k = c .before in
     let n = k .before .before in
     let numbers = n .before .before .args .numbers .now in
-    let e : leb 37 (length numbers) ≡ true = le-leb 37 (length numbers) (omega arith) in
-    rw e (refl, k .keep .ensures ∙ ap (λ (s : Session). rowOf s ++ drop 37 numbers) (n .new .ensures))
+    let e : leb sessionNumbers (length numbers) ≡ true = le-leb sessionNumbers (length numbers) (omega arith) in
+    rw e (refl, k .keep .ensures ∙ ap (λ (s : Session). rowOf s ++ drop sessionNumbers numbers) (n .new .ensures))
 
 pub open-spec : {M : Type 1} → statement M
 open-spec = tie.close (tie.spec returns new-requires keep-requires same-length returns-2)

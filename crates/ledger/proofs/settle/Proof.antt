@@ -6,6 +6,7 @@ use lib.ListN.{drop}
 use Rattle.delivery.specs.declared.Answer.{Answer}
 use Rattle.delivery.specs.Deliver.{answerKind, answerPlace}
 use Rattle.slip.specs.Slip.{handed}
+use Rattle.ledger.specs.Numbers.{sessionNumbers}
 use Rattle.ledger.specs.Ledger.{numbersAfterAnswer}
 use borrow.Author.Needs.{needs}
 use Rattle.ledger.proofs.settle.Statement.{statement}
@@ -60,7 +61,7 @@ returns c =
       ap answerKind (sym e),
       (
         k .keep .ensures
-            ∙ ap (λ (l : List ℤ). l ++ drop 37 (s .args .numbers .now)) (s .pre .fits e)
+            ∙ ap (λ (l : List ℤ). l ++ drop sessionNumbers (s .args .numbers .now)) (s .pre .fits e)
             ∙ ap (λ (a : Answer). numbersAfterAnswer a (s .args .d .session) (s .args .numbers .now)) (sym e),
         n .hand .ensures ∙ ap (λ (a : Answer). handed (answerPlace a) (s .args .answer .now)) (sym e),
       ),

@@ -34,6 +34,7 @@ returns-2 c =
       column = s .column;
       finished = s .finished;
       profile = n .new .ensures j .profile;
+      sum = back (s .sum) (c .struct-told .given .1 .1 .1 .1 .1 .1 .1 .1 .1 .1 .0 .1) j;
     })
     ∙ sym (goes-on (s .closed) (closedSession s) s (e .if1 .left))
 

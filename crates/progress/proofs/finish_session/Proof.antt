@@ -30,6 +30,7 @@ returns-2 c =
       column = s .column;
       finished = 1;
       profile = s .profile;
+      sum = back (s .sum) (c .struct-told .given .1 .1 .1 .1 .1 .1 .1 .1 .1 .1 .0 .1) j;
     })
     ∙ sym (goes-on (s .taken) (finishedSession s) s (e .if1 .left))
 

@@ -6,7 +6,8 @@ use borrow.Author.Tests.{eq-eqb, ne-eqb}
 use lib.IntN.{pos, natAbs, _*ℤ_}
 use mir.Facts.{toZ-ofZ}
 use Rattle.laws.specs.Sign.{sameZ}
-use Rattle.rules.proofs.Sums.{scaled-fits, stated-most, out-of-reach}
+use Rattle.laws.proofs.Integers.{size-most}
+use Rattle.rules.proofs.Sums.{scaled-fits, out-of-reach}
 use Rattle.rules.proofs.agrees.Statement.{statement}
 use Rattle.rules.proofs.agrees.Tie as tie
 
@@ -26,7 +27,7 @@ returns-2 c =
     let e = c .before .before in
     let a = e .before in
     let far = subst (λ n. 922337203685 < n) (c .before .size-of .ensures ∙ ap natAbs (toZ-ofZ (a .fits .extreme))) (c .if2 .taken) in
-    sym (simp (ne-eqb _ _ (e .if1 .left)) (out-of-reach (a .args .told) (a .args .extreme) (stated-most (a .args .told) (a .fits .told)) far))
+    sym (simp (ne-eqb _ _ (e .if1 .left)) (out-of-reach (a .args .told) (a .args .extreme) (size-most (a .args .told) (a .fits .told)) far))
 
 mul-same : tie.Need-mul-same
 mul-same c =

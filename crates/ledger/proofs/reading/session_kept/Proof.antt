@@ -36,8 +36,13 @@ count-at-requires-5 c κs = search needs
 count-at-requires-6 : tie.Need-count-at-requires-6
 count-at-requires-6 c κs = search needs
 
+number-at-requires-3 : tie.Need-number-at-requires-3
+number-at-requires-3 c κs = search needs
+
 returns : tie.Need-returns
-returns c =
+returns e =
+    let c = e .before in
+    let sum = e .number-at3 in
     let low = c .before .before .before .number-at in
     let high = c .before .before .number-at2 in
     let column = c .before .count-at5 in
@@ -54,6 +59,7 @@ returns c =
             column = column .ensures .0 j;
             finished = c .count-at6 .ensures .0 j;
             profile = profile .ensures .0 j;
+            sum = (toZ-ofZ {w = w64} {z = sum .result} (record { sfits = sum .ok }) ∙ sum .ensures) j;
           }),
       record { column = column .ensures .1; row = profile .ensures .1 .0; read = profile .ensures .1 .1 .0; filled = profile .ensures .1 .1 .1 },
     )
@@ -72,4 +78,5 @@ session-kept-spec =
     number-at-requires-2
     count-at-requires-5
     count-at-requires-6
+    number-at-requires-3
     returns)

@@ -1,4 +1,5 @@
 -- A further block: scanned, and filled where it has no fault; Judged has why.
+use mathlib.Core.Path.{_∙_}
 use native.Mathlib.Omega.{arith}
 use borrow.Author.Needs.{needs}
 use lib.ListN.{length}
@@ -58,6 +59,7 @@ scannable s =
     let f = o .ready .profile-is (o .busy-is) in
     record {
       ready = o .ready;
+      few = omega (arith, s .before .before .before .before .fewer-of .ensures);
       read-most = omega (arith, s .before .before .before .before .fewer-of .ensures, f .read-below);
       posts-most = f .posts-most;
       filled-most = f .filled-most;
@@ -91,14 +93,19 @@ returns c =
     (further-refused (a .s) (a .number) (a .block .now) (l .fewer-of .result) (s .scan-block .result .kind) (s .scan-block .result .byte) (l .fewer-of .ensures) (scanned s .fault-is) (c .before .if1 .taken))
     (record { judged-is = c .refused .ensures; lies = tt })
 
+sum-filled-requires : tie.Need-sum-filled-requires
+sum-filled-requires c κs = search needs
+
 fill-step-requires : tie.Need-fill-step-requires
 fill-step-requires c κs =
-    let s = c .before .before .before .before in
-    let a = s .before .before .before .before .before .before .before .before .before .args in (
+    let s = c .before .before .before .before .before .before in
+    let a = s .before .before .before .before .before .before .before .before .before .args in
+    rw (back (c .sum-filled .result) (c .sum-filled .ok)) (
       scanned-filling (a .s) (a .s .profile) 1 (s .before .before .before .before .fewer-of .result) (a .block .now) (a .scratch .now) (s .scan-block .last .1 .1 .1 .1 .1 .0) (s .scan-block .result)
           (scanned s)
-          (c .before .if1 .left)
-          (scannable s),
+          (c .before .before .before .if1 .left)
+          (scannable s)
+          (c .sum-filled .ensures .1),
       placing s,
     )
 
@@ -107,11 +114,12 @@ same-length-2 c = search needs
 
 returns-2 : tie.Need-returns-2
 returns-2 c =
-    let s = c .before .before .before .before .before in
+    let m = c .before in
+    let s = m .before .before .before .before .before .before in
     let a = s .before .before .before .before .before .before .before .before .before .args in
     let l = s .before .before .before .before in
     let after = s .scan-block .last .1 .1 .1 .1 .1 .0 in
-    let good = c .before .before .if1 .left in
+    let good = m .before .before .before .if1 .left in
     same-judging
     (further-fine (a .s) (a .number) (a .block .now) (l .fewer-of .result) (s .scan-block .result .kind) (s .scan-block .result .byte) (l .fewer-of .ensures) (scanned s .fault-is) good)
     (record {
@@ -119,6 +127,7 @@ returns-2 c =
           by-heights (a .s) (a .s .profile) 1 (l .fewer-of .result) (a .block .now) (a .scratch .now) after (s .scan-block .result) (scanned s) good (scannable s)
           (filling (a .s) (a .number) (a .s .column) (a .s .profile))
           (c .fill-step .result)
+          (back (m .sum-filled .result) (m .sum-filled .ok) ∙ m .sum-filled .ensures .0)
           (c .fill-step .ensures);
       lies =
           filled-lies (a .s) (a .s .profile) 1 (l .fewer-of .result) (a .block .now) (a .scratch .now) after (s .scan-block .result) (scanned s) good (scannable s)
@@ -138,6 +147,7 @@ further-block-spec =
     refused-requires
     same-length
     returns
+    sum-filled-requires
     fill-step-requires
     same-length-2
     returns-2)

@@ -1,7 +1,9 @@
 -- A first block: scanned, then placed and filled; Placed has why.
 use borrow.Author.Needs.{needs}
-use mathlib.Core.Path.{_≡_}
+use mathlib.Core.Path.{_≡_, _∙_}
+use Prim.Native.Nat.{_≤_, _^_}
 use native.Mathlib.Omega.{arith}
+use lib.IntN.{ℤ, natAbs}
 use Rattle.laws.proofs.Signs.{back}
 use Rattle.frame.specs.Frame.{zOf, cellsOf}
 use Rattle.posts.specs.Steps.{BlockScanned}
@@ -47,9 +49,9 @@ scanned s =
     (o .datum-most))
     (s .scan-block .ensures)
 
-placeable : (s : tie.After-scan-block) → s .scan-block .result .kind ≡ 0
-    → Placeable (s .before .before .before .before .before .before .before .args .s) (s .before .before .before .before .before .before .before .args .number) (s .before .before .before .before .before .before .before .args .head) (s .before .before .before .before .fewer-of .result) (s .scan-block .result .tally)
-placeable s e =
+placeable : (s : tie.After-scan-block) {sum : ℤ} → s .scan-block .result .kind ≡ 0 → natAbs sum ≤ 2 ^ 40
+    → Placeable (s .before .before .before .before .before .before .before .args .s) (s .before .before .before .before .before .before .before .args .number) (s .before .before .before .before .before .before .before .args .head) (s .before .before .before .before .fewer-of .result) (s .scan-block .result .tally) sum
+placeable s e h =
     let o = s .before .before .before .before .before .before .before .pre in
     let a = s .before .before .before .before .before .before .before .args in
     let n = s .before .before .before .before .fewer-of .ensures in
@@ -61,6 +63,7 @@ placeable s e =
       posts-most = o .posts-most;
       within = omega (arith, n);
       count = scanned-count (a .s) (a .head .datum) 145 (s .before .before .before .before .fewer-of .result) (a .block .now) (a .scratch .now) (s .scan-block .last .1 .1 .1 .1 .1 .0) (s .scan-block .result) (scanned s) e;
+      sum-most = h;
     }
 
 refused-requires : tie.Need-refused-requires
@@ -78,8 +81,12 @@ returns c =
     (opening-refused (a .s) (a .number) (a .block .now) (l .fewer-of .result) (s .scan-block .result .kind) (s .scan-block .result .byte) (a .head) (l .fewer-of .ensures) (scanned s .fault-is) (c .before .if1 .taken))
     (record { judged-is = c .refused .ensures; lies = tt })
 
+sum-filled-requires : tie.Need-sum-filled-requires
+sum-filled-requires c κs = search needs
+
 place-profile-requires : tie.Need-place-profile-requires
-place-profile-requires c κs = placeable (c .before .before .before .before) (c .before .if1 .left)
+place-profile-requires c κs =
+    rw (back (c .sum-filled .result) (c .sum-filled .ok)) (placeable (c .before .before .before .before .before .before) (c .before .before .before .if1 .left) (c .sum-filled .ensures .1))
 
 same-length-2 : tie.Need-same-length-2
 same-length-2 c = search needs
@@ -90,6 +97,7 @@ scannable s =
     let o = s .before .before .before .before .before .before .before .pre in
     record {
       ready = o .ready;
+      few = omega (arith, s .before .before .before .before .fewer-of .ensures);
       read-most = omega (arith, s .before .before .before .before .fewer-of .ensures);
       posts-most = o .posts-most;
       filled-most = omega arith;
@@ -97,11 +105,12 @@ scannable s =
 
 returns-2 : tie.Need-returns-2
 returns-2 c =
-    let s = c .before .before .before .before .before in
+    let m = c .before in
+    let s = m .before .before .before .before .before .before in
     let a = s .before .before .before .before .before .before .before .args in
     let l = s .before .before .before .before in
     let after = s .scan-block .last .1 .1 .1 .1 .1 .0 in
-    let good = c .before .before .if1 .left in
+    let good = m .before .before .before .if1 .left in
     let p = opened (a .s) (a .head) in
     let to = filling (a .s) (a .number) (firstColumn (a .s) (a .head)) p in
     same-judging
@@ -111,10 +120,11 @@ returns-2 c =
           by-heights (a .s) p 145 (l .fewer-of .result) (a .block .now) (a .scratch .now) after (s .scan-block .result) (scanned s) good (scannable s)
           (λ hs. placed (a .s) (a .number) (a .head) (to hs))
           (c .place-profile .result)
+          (back (m .sum-filled .result) (m .sum-filled .ok) ∙ m .sum-filled .ensures .0)
           (c .place-profile .ensures);
       lies =
           placed-lies (a .s) (a .number) (a .head) (to (heightsHere (a .s) p 145 (l .fewer-of .result) (a .block .now))) (cellsOf (a .s .header)) after
-          (λ east north. filled-lies (a .s) p 145 (l .fewer-of .result) (a .block .now) (a .scratch .now) after (s .scan-block .result) (scanned s) good (scannable s) (a .number) (firstColumn (a .s) (a .head)) (opened-placing (a .s) (a .number) (a .head) (l .fewer-of .result) (s .scan-block .result .tally) (placeable s good) east north));
+          (λ east north. filled-lies (a .s) p 145 (l .fewer-of .result) (a .block .now) (a .scratch .now) after (s .scan-block .result) (scanned s) good (scannable s) (a .number) (firstColumn (a .s) (a .head)) (opened-placing (a .s) (a .number) (a .head) (l .fewer-of .result) (s .scan-block .result .tally) (m .sum-filled .result) (placeable s good (m .sum-filled .ensures .1)) east north));
     })
 
 pub open-block-spec : {M : Type 1} → statement M
@@ -127,6 +137,7 @@ open-block-spec =
     refused-requires
     same-length
     returns
+    sum-filled-requires
     place-profile-requires
     same-length-2
     returns-2)

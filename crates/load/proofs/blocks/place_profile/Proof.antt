@@ -32,7 +32,7 @@ refused-requires : tie.Need-refused-requires
 refused-requires c κs = search needs
 
 returns : tie.Need-returns
-returns c hs e f =
+returns c hs e f g =
     let k = c .before .before in
     let a = k .before .before .before .before .args in
     c .refused .ensures
@@ -60,7 +60,7 @@ refused-requires-2 : tie.Need-refused-requires-2
 refused-requires-2 c κs = search needs
 
 returns-2 : tie.Need-returns-2
-returns-2 c hs e f =
+returns-2 c hs e f g =
     let k = c .before .before in
     let a = k .before .before .before .before .before .before .before .before .args in
     c .refused2 .ensures
@@ -86,16 +86,17 @@ fill-step-requires : tie.Need-fill-step-requires
 fill-step-requires c κs =
     let o = c .before .before .before .before .before .before .before .before .before .before .before in
     let a = o .args in
-    rw (profile-is c, from-is c) (
-      opened-filling (a .s) (a .number) (a .head) (a .n) (a .u) (o .pre),
-      opened-placing (a .s) (a .number) (a .head) (a .n) (a .u) (o .pre) (east (c .before .before .before .before .before .before)) (north (c .before .before)),
+    rw (profile-is c, from-is c, back (a .sum) (o .fits .sum .sfits)) (
+      opened-filling (a .s) (a .number) (a .head) (a .n) (a .u) (a .sum) (o .pre),
+      opened-placing (a .s) (a .number) (a .head) (a .n) (a .u) (a .sum) (o .pre) (east (c .before .before .before .before .before .before)) (north (c .before .before)),
     )
 
 returns-3 : tie.Need-returns-3
-returns-3 c hs e f =
+returns-3 c hs e f g =
     let o = c .before in
-    let a = o .before .before .before .before .before .before .before .before .before .before .before .args in
-    c .fill-step .ensures hs e f
+    let start = o .before .before .before .before .before .before .before .before .before .before .before in
+    let a = start .args in
+    c .fill-step .ensures hs e f (back (a .sum) (start .fits .sum .sfits) ∙ g)
     ∙ (λ j. judgedOf (a .s) (filling (a .s) (a .number) (from-is o j) (profile-is o j) hs))
     ∙ ap (judgedOf (a .s)) (place-good (a .s) (a .number) (a .head) _ (east (o .before .before .before .before .before .before)) (north (o .before .before)))
 
