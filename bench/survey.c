@@ -10,7 +10,7 @@ enum { BLOCK = 1024, CELLS = 1201 * 1201, SCRATCH = 170 };
 #define CENT INT64_C(10000000) /* a hundredth, in billionths */
 
 typedef struct { int64_t first, count, step; } lattice;
-typedef struct { uint64_t filled; int64_t low, high; } extremes;
+typedef struct { uint64_t filled; int64_t low, high, sum; } extremes;
 
 typedef struct {
     int64_t level, system, zone, ground, vertical, accuracy, profiles;
@@ -246,7 +246,7 @@ static int read_head(const unsigned char *b, int64_t number, profile *p, int64_t
 
 static int read_posts(const unsigned char *b, int at, int n, int64_t z, int64_t datum, int32_t *out, extremes *seen, int *byte)
 {
-    extremes e = { 0, INT64_MAX, INT64_MIN };
+    extremes e = { 0, INT64_MAX, INT64_MIN, 0 };
     for (int i = 0; i < n; i++, at += 6) {
         int64_t v;
         JUDGE(at, field(b, at, -32767, 32767, 7, &v));
@@ -257,6 +257,7 @@ static int read_posts(const unsigned char *b, int at, int n, int64_t z, int64_t 
         v = v * z + datum;
         out[i] = (int32_t)v;
         e.filled++;
+        e.sum += v;
         if (v < e.low)
             e.low = v;
         if (v > e.high)
@@ -290,6 +291,7 @@ static void join(extremes *a, const extremes *b)
     if (!a->filled || b->high > a->high)
         a->high = b->high;
     a->filled += b->filled;
+    a->sum += b->sum;
 }
 
 static int64_t stated(const extremes *e, int64_t v) { return e->filled ? v * CENT : 0; }
@@ -430,6 +432,8 @@ static void print_sheet(const session *s)
     printf("\nend %llu\n", (unsigned long long)s->taken);
 }
 
+volatile int64_t sum_kept; /* no line tells the sum, and a compiler would leave it out */
+
 int main(void)
 {
     static unsigned char block[BLOCK];
@@ -443,6 +447,7 @@ int main(void)
             return 0;
         }
     }
+    sum_kept = s.seen.sum;
     if (s.taken && is_complete(&s))
         print_sheet(&s);
     else

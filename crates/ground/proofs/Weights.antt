@@ -39,20 +39,18 @@ filled-append (x ∷ xs) ys = omega (arith, filled-append xs ys)
 
 -- ---- the sum
 
-pub sum-weighed : (hs : List ℤ) → Difference (sumOf (filledOnly hs)) (weighed above hs) (weighed below hs)
+sum-weighed : (hs : List ℤ) → Difference (sumOf (filledOnly hs)) (weighed above hs) (weighed below hs)
 sum-weighed [] = record { above-is = refl; below-is = refl }
 sum-weighed (h ∷ hs) =
     let rest = sum-weighed hs in
     by-test (sameZ h void) (λ e. rw e (omega (arith, rest)))
     (λ e. rw e (omega (arith, rest, sum-parts h (sumOf (filledOnly hs)))))
 
--- a number that is the same difference is the sum
-pub sum-by : (hs : List ℤ) (z : ℤ) → Difference z (weighed above hs) (weighed below hs) → z ≡ sumOf (filledOnly hs)
-sum-by hs z d = parts-same z (sumOf (filledOnly hs)) (omega (arith, d, sum-weighed hs))
-
+-- the same weights above zero and below it have the same sum
 pub same-sum : (xs ys : List ℤ) → weighed above xs ≡ weighed above ys → weighed below xs ≡ weighed below ys
     → sumOf (filledOnly xs) ≡ sumOf (filledOnly ys)
-same-sum xs ys p q = sum-by ys (sumOf (filledOnly xs)) (omega (arith, sum-weighed xs, p, q))
+same-sum xs ys p q =
+    parts-same (sumOf (filledOnly xs)) (sumOf (filledOnly ys)) (omega (arith, sum-weighed xs, sum-weighed ys, p, q))
 
 -- ---- heights in two parts
 

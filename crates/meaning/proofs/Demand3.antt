@@ -206,7 +206,7 @@ module _ (cs : List Call) (kept : Fresh paperLent cs) (paper : deliveries cs ≡
   pub paper-taken : answers cs ≡ Taken ∷ (Taken ∷ (Taken ∷ []))
   paper-taken = Shut.all-taken cs kept paper
 
-  -- and leave the paper's session and cells: 5 posts, 4 filled, 3 blocks, and no count invented (for every list of deliveries: `counts-are`)
+  -- and leave the paper's session and cells: 5 posts, 4 filled, 3 blocks, their sum, and no count invented (for every list of deliveries: `counts-are`)
   pub paper-session : sessionAfter fresh cs ≡ paperSession
   paper-session = Shut.session-is cs kept paper
 

@@ -166,7 +166,7 @@ paperHeader =
       profiles = 2;
     }
 
--- "posts 5 void 1", "range 9.00 12.00", "end 3": the session afterwards
+-- "posts 5 void 1", "range 9.00 12.00", "end 3": the session afterwards, with the sum of 10, 12, 11 and 9
 abbrev pub paperSession : Session
 paperSession =
     record {

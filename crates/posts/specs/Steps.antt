@@ -1,12 +1,14 @@
 -- How the code scans a block: contracts of private functions, and what the public promise gives its callers.
 use mathlib.Core.Path.{_≡_}
 use mathlib.Core.List.{List}
+use mathlib.Core.Bool.{cond}
 use Prim.Native.Nat.{ℕ, _+_, _*_, _-_, _^_, _≤_}
-use lib.IntN.{ℤ, natAbs}
+use lib.IntN.{ℤ, pos, natAbs}
 use lib.ListN.{length, take}
+use Rattle.laws.specs.Sign.{sameZ}
 use Rattle.field.specs.Field.{fault}
 use Rattle.ground.specs.declared.Tally.{Tally}
-use Rattle.ground.specs.Posts.{postsFault, postsOf, heights, tallyAll, noTally, postsRestFault}
+use Rattle.ground.specs.Posts.{void, postsFault, postsOf, heights, tallyAll, noTally, postsRestFault}
 use Rattle.posts.specs.Scan.{goodPosts, heightsOver}
 use Rattle.posts.specs.declared.Scan.{Scan}
 
@@ -33,3 +35,7 @@ pub record BlockScanned (block : List ℕ) (byte n z : ℕ) (datum : ℤ) (befor
   pub heights-are : r .kind ≡ 0 → take n after ≡ heights z datum (postsOf n byte block)
   pub tally-is : r .kind ≡ 0 → r .tally ≡ tallyAll noTally (heights z datum (postsOf n byte block))
   pub posts-fine : r .kind ≡ 0 → postsFault n byte block .kind ≡ 0
+
+-- what a height adds to a sum
+abbrev pub share : ℤ → ℤ
+share h = cond (sameZ h void) (pos 0) h

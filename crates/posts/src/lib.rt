@@ -11,10 +11,8 @@ ghost use lib.Seq.{sets};
 ghost use Rattle.ground.specs.Posts.{void, judgePost, height, tallyOne, noTally, Scaled};
 ghost use Rattle.ground.specs.Extremes.{filledOnly, sumOf};
 ghost use Rattle.laws.specs.Sign.{sameZ};
-ghost use Rattle.laws.proofs.Integers.{above, below};
-ghost use Rattle.ground.proofs.Weights.{weight};
 ghost use Rattle.posts.specs.Scan.{askable, goodPosts, heightsOver, scanned, scanOf, scratchAfter, summed, voided, placed};
-ghost use Rattle.posts.specs.Steps.{Asked, Scanned};
+ghost use Rattle.posts.specs.Steps.{Asked, Scanned, share};
 
 // The first fault of a block's posts and of what stands behind them (kind 0: none), and the tally of their heights.
 pub struct Scan {
@@ -199,40 +197,28 @@ fn is_void(h: i64) -> bool
     figures::same(h, -2147483648)
 }
 
-// How far a filled height lies above zero, and how far below; a void does neither.
-fn part_above(h: i64) -> u64
-    ensures { λ r. ⌜ r ≡ weight above h ⌝ }
+// What a height adds to a sum: a void nothing.
+fn share_of(h: i64) -> i64
+    ensures { λ r. ⌜ r ≡ share h ⌝ }
 {
     if is_void(h) {
         return 0;
     }
-    figures::not_negative(h)
+    h
 }
 
-fn part_below(h: i64) -> u64
-    ensures { λ r. ⌜ r ≡ weight below h ⌝ }
-{
-    if is_void(h) {
-        return 0;
-    }
-    number::size_of(h) - figures::not_negative(h)
-}
-
-// What lies above zero and what lies below are added up apart: the one less the other is the sum, and neither needs a sign.
 fn add_up(values: &[i32], n: usize) -> i64
     requires { ⌜ (n ≤ 170) × (n ≤ length (now values)) ⌝ }
     ensures { λ r. ⌜ (r ≡ sumOf (filledOnly (take n (now (values .entry))))) × (natAbs r ≤ 2 ^ 40) ⌝ }
 {
-    let mut up: u64 = 0;
-    let mut down: u64 = 0;
+    let mut sum: i64 = 0;
     let mut i = 0;
     while i < n {
         let h = values[i] as i64;
-        up += part_above(h);
-        down += part_below(h);
+        sum += share_of(h);
         i += 1;
     }
-    (up as i64) - (down as i64)
+    sum
 }
 
 // The sum of the first n values, voids left out; 0 where there are not so many, or more than a block's posts.
