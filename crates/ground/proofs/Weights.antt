@@ -34,8 +34,8 @@ filled-weighed [] = refl
 filled-weighed (h ∷ hs) = ap (λ (n : ℕ). cond (sameZ h void) 0 1 + n) (filled-weighed hs)
 
 pub filled-append : (xs ys : List ℤ) → filledIn (xs ++ ys) ≡ filledIn xs + filledIn ys
-filled-append [] ys = omega arith
-filled-append (x ∷ xs) ys = omega (arith, filled-append xs ys)
+filled-append xs ys =
+    omega (arith, weighed-append (λ h. 1) xs ys, filled-weighed (xs ++ ys), filled-weighed xs, filled-weighed ys)
 
 -- ---- the sum
 

@@ -54,12 +54,18 @@ fn height_of(z: u64, datum: i64, post: i64) -> i64
     post * (z as i64) + datum
 }
 
+fn is_void(h: i64) -> bool
+    ensures { λ r. ⌜ r ≡ sameZ h void ⌝ }
+{
+    figures::same(h, -2147483648)
+}
+
 // While none is filled the extremes are not looked at: a session may hold any there.
 fn tally_one(t: Tally, h: i64) -> Tally
     requires { ⌜ t .filled ≤ 2 ^ 33 ⌝ }
     ensures { λ r. ⌜ r ≡ tallyOne t h ⌝ }
 {
-    if figures::same(h, -2147483648) {
+    if is_void(h) {
         return t;
     }
     if t.filled == 0 {
@@ -189,12 +195,6 @@ pub fn scan_block(
         };
     }
     scan_asked(block, byte, n, z, datum, scratch)
-}
-
-fn is_void(h: i64) -> bool
-    ensures { λ r. ⌜ r ≡ sameZ h void ⌝ }
-{
-    figures::same(h, -2147483648)
 }
 
 // What a height adds to a sum: a void nothing.

@@ -11,11 +11,11 @@ use Rattle.ground.specs.Posts.{void}
 use Rattle.posts.proofs.tally_one.Statement.{statement}
 use Rattle.posts.proofs.tally_one.Tie as tie
 
-same-requires : tie.Need-same-requires
-same-requires c κs = search needs
+is-void-requires : tie.Need-is-void-requires
+is-void-requires c κs = search needs
 
-tested : (c : tie.After-same) → c .same .result ≡ sameZ (c .before .args .h) void
-tested c = c .same .ensures ∙ ap (λ (v : ℤ). sameZ v void) (toZ-ofZ (c .before .fits .h))
+tested : (c : tie.After-is-void) → c .is-void .result ≡ sameZ (c .before .args .h) void
+tested c = c .is-void .ensures ∙ ap (λ (v : ℤ). sameZ v void) (toZ-ofZ (c .before .fits .h))
 
 passed : (c : tie.Else1) → sameZ (c .before .before .args .h) void ≡ false
 passed c = sym (tested (c .before)) ∙ c .if1 .left
@@ -57,4 +57,4 @@ returns-3 c =
 pub tally-one-spec : {M : Type 1} → statement M
 tally-one-spec =
     tie.close
-    (tie.spec same-requires returns returns-2 add-t5 lesser-of-requires greater-of-requires returns-3)
+    (tie.spec is-void-requires returns returns-2 add-t5 lesser-of-requires greater-of-requires returns-3)
