@@ -31,7 +31,7 @@ int main(void)
     uint64_t answer[2] = {0, 0};
     int32_t *grid = NULL;
     size_t cells = 0, got;
-    dem_open(session, DEM_SESSION);
+    dem_open(DEM_USGS, session, DEM_SESSION);
     for (uint32_t number = 0; (got = fread(block, 1, BLOCK, stdin)) > 0; number++) {
         if (number == 0 && !(grid = lend_grid(block, got, &cells)))
             return 1;

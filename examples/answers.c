@@ -1,18 +1,24 @@
 /* Answers from the C calls over a pipe, so that another program, on whatever machine, can hold them against its own.
  * In: one byte that says what is asked; four bytes of length, the least first; that many bytes. A slice among them is four bytes
- * of count and then its elements; `number`, `length` and `room` have four bytes. Values have the least byte first, both ways.
+ * of count and then its elements; `family`, `number`, `length`, `room` and the like have four bytes. Values have the least byte first, both ways.
  *
  * On one slice of bytes, asked in each of two surroundings:
  *   'f' a field          kind and value of the integer, kind and value of the real
  *   'a' a record A       kind, byte, origin, length of the name
  * On slices that all stand between guards; the answer starts with whether every guard, and every slice that the call may only
  * read, is as it was (1 or 0):
- *   'o' numbers                                          dem_open; the numbers after it
+ *   'o' family, numbers                                  dem_open; the numbers after it
  *   'd' numbers, number, block, cells, room              dem_deliver; numbers, cells and the answer's slots after it
  *   's' numbers, length                                  dem_is_sound, dem_is_complete, dem_report; the report's bytes after it
  *   'c' block                                            dem_columns, dem_rows
+ *   'F' family, block                                    kind, byte and origin of a record A, columns, rows, all by its family
  *   'w' template, cells, number, block, room             dem_block_count, dem_write_block; block and slots after it
  *   'W' template, cells, length, room                    dem_write_sheet; the sheet's bytes and slots after it
+ * On a grid that is kept here from one request to the next, for sheets too large to be sent to and fro with each block:
+ *   'G' cells, held                                      makes it, of so many cells that all hold this
+ *   'D' numbers, number, block, lent, first, count, room dem_deliver with the front of it lent; numbers, `count` of its cells from
+ *                                                        `first` on and the slots after it
+ *   'k' first, count                                     so many of its cells
  * Kinds, bytes, origins and results have four bytes, values, counts and slots eight. 'n' hands over what is there. */
 #include "desk.h"
 
@@ -68,7 +74,7 @@ struct lent {
     uint8_t guard;
 };
 
-static struct lent session, block, grid, given, slots;
+static struct lent session, block, grid, given, slots, kept;
 
 static uint8_t *lend(struct lent *slice, size_t bytes) {
     if (slice->whole == NULL || bytes > slice->room) {
@@ -124,8 +130,9 @@ static void hand_back(const struct lent *slice) {
 
 static void answer_open(struct request *asked) {
     size_t count;
+    uint32_t family = take_four(asked);
     int64_t *numbers = lend_elements(&session, asked, sizeof *numbers, &count);
-    uint32_t result = dem_open(numbers, count);
+    uint32_t result = dem_open(family, numbers, count);
     put((uint64_t)guards_stand(&session), 4);
     put(result, 4);
     hand_back(&session);
@@ -144,6 +151,44 @@ static void answer_deliver(struct request *asked) {
     hand_back(&session);
     hand_back(&grid);
     hand_back(&slots);
+}
+
+static void answer_keep(struct request *asked) {
+    size_t size = take_four(asked);
+    uint32_t held = take_four(asked);
+    uint8_t *at = lend(&kept, size * sizeof held);
+    for (size_t i = 0; i < size; i++) memcpy(at + i * sizeof held, &held, sizeof held);
+    put(1, 4);
+}
+
+/* Cells of the kept grid, which are asked for in one stretch. */
+static void hand_back_kept(size_t first, size_t count) {
+    size_t width = sizeof(int32_t);
+    if (first > kept.bytes / width || count > kept.bytes / width - first) stop("asked for cells that are not kept");
+    fwrite(kept.whole + AROUND + first * width, width, count, stdout);
+}
+
+static void answer_deliver_kept(struct request *asked) {
+    size_t count, length;
+    int64_t *numbers = lend_elements(&session, asked, sizeof *numbers, &count);
+    uint32_t number = take_four(asked);
+    uint8_t *bytes = lend_elements(&block, asked, 1, &length);
+    size_t lent = take_four(asked), first = take_four(asked), shown = take_four(asked), room = take_four(asked);
+    if (kept.whole == NULL || lent > kept.bytes / sizeof(int32_t)) stop("asked for a grid that is not kept");
+    int32_t *cells = (int32_t *)(void *)(kept.whole + AROUND);
+    uint32_t result = dem_deliver(numbers, count, number, bytes, length, cells, lent, lend_slots(room), room);
+    put((uint64_t)(guards_stand(&session) && is_as_it_was(&block) && guards_stand(&kept) && guards_stand(&slots)), 4);
+    put(result, 4);
+    hand_back(&session);
+    hand_back_kept(first, shown);
+    hand_back(&slots);
+}
+
+static void answer_look(struct request *asked) {
+    size_t first = take_four(asked), count = take_four(asked);
+    if (kept.whole == NULL) stop("asked for a grid that is not kept");
+    put((uint64_t)guards_stand(&kept), 4);
+    hand_back_kept(first, count);
 }
 
 static void answer_session(struct request *asked) {
@@ -165,6 +210,21 @@ static void answer_columns(struct request *asked) {
     uint8_t *bytes = lend_elements(&block, asked, 1, &length);
     uint64_t columns = dem_columns(bytes, length), rows = dem_rows(bytes, length);
     put((uint64_t)is_as_it_was(&block), 4);
+    put(columns, 8);
+    put(rows, 8);
+}
+
+static void answer_of_family(struct request *asked) {
+    size_t length;
+    uint32_t family = take_four(asked);
+    uint8_t *bytes = lend_elements(&block, asked, 1, &length);
+    uint32_t kind = dem_family_record_a_kind(family, bytes, length), byte = dem_family_record_a_byte(family, bytes, length);
+    uint32_t origin = dem_family_origin(family, bytes, length);
+    uint64_t columns = dem_family_columns(family, bytes, length), rows = dem_family_rows(family, bytes, length);
+    put((uint64_t)is_as_it_was(&block), 4);
+    put(kind, 4);
+    put(byte, 4);
+    put(origin, 4);
     put(columns, 8);
     put(rows, 8);
 }
@@ -220,6 +280,10 @@ static void answer(int what, struct request asked) {
     case 'd': answer_deliver(&asked); break;
     case 's': answer_session(&asked); break;
     case 'c': answer_columns(&asked); break;
+    case 'F': answer_of_family(&asked); break;
+    case 'G': answer_keep(&asked); break;
+    case 'D': answer_deliver_kept(&asked); break;
+    case 'k': answer_look(&asked); break;
     case 'w': answer_write_block(&asked); break;
     case 'W': answer_write_sheet(&asked); break;
     default: stop("asked for something unknown");

@@ -44,8 +44,8 @@ static struct desk open_desk(void)
     desk.session[DEM_SESSION] = 7;
     for (int i = 0; i <= CELLS; i++)
         desk.grid[i] = 7;
-    expect(dem_open(desk.session, DEM_SESSION - 1) == 12, "a session of too few numbers is not opened: 12");
-    expect(dem_open(desk.session, DEM_SESSION) == 0, "opened");
+    expect(dem_open(DEM_USGS, desk.session, DEM_SESSION - 1) == 12, "a session of too few numbers is not opened: 12");
+    expect(dem_open(DEM_USGS, desk.session, DEM_SESSION) == 0, "opened");
     return desk;
 }
 
@@ -85,7 +85,7 @@ static int same_session(const int64_t *session, const uint8_t *record_a)
         9 * UNIT, 12 * UNIT, 0, 30 * UNIT, 30 * UNIT, 1 * UNIT, 2, /* extremes, accuracy, spacings, profiles */
         3, 2, 5, 4, 900, 1200, 0, 0,                               /* taken, closed, posts, filled, low, high, column, finished */
         0, 0, 0, 0, 0, 0, 0, 0, 0,                                 /* no open profile */
-        1000 + 1200 + 1100 + 900,                                  /* sum */
+        1000 + 1200 + 1100 + 900, DEM_USGS,                        /* sum, family */
     };
     return memcmp(session, numbers, sizeof numbers) == 0 && session[DEM_SESSION] == 7;
 }
@@ -168,6 +168,27 @@ static void unsound(struct desk desk, const uint8_t *block)
     desk.session[DEM_TAKEN] = taken;
 }
 
+/* A family that nobody knows can be opened, but nothing can be delivered to it; nor is a sheet sound under a family that it was not begun
+ * with, unless it obeys that one too. */
+static void other_families(struct desk desk, const uint8_t *block)
+{
+    static const int64_t unknown[] = {-1, 2, 255, INT64_C(1) << 32};
+    for (size_t i = 0; i < sizeof unknown / sizeof *unknown; i++) {
+        desk.session[DEM_FAMILY] = unknown[i];
+        expect(dem_is_sound(desk.session, DEM_SESSION) == 0, "a family that is none: unsound");
+    }
+    desk.session[DEM_FAMILY] = DEM_CANADIAN;
+    expect(dem_is_sound(desk.session, DEM_SESSION) == 0, "a UTM sheet is no Canadian one: unsound");
+    desk.session[DEM_FAMILY] = DEM_USGS;
+    expect(dem_is_sound(desk.session, DEM_SESSION) == 1, "with its own family: sound");
+    struct desk other = open_desk();
+    expect(dem_open(2, other.session, DEM_SESSION) == 0 && other.session[DEM_FAMILY] == 2, "family 2 is opened");
+    deliver(other, 0, block, BLOCK, 2, 0, 0);
+    expect(dem_open(DEM_CANADIAN, other.session, DEM_SESSION) == 0 && dem_is_sound(other.session, DEM_SESSION) == 1, "family 1 is opened");
+    deliver(other, 0, block, BLOCK, 6, 0, 110); /* no corner in degrees */
+    close_desk(other);
+}
+
 /* Block by block, and all at once: the same bytes. */
 static uint8_t *send(const uint8_t *record_a, const int32_t *grid)
 {
@@ -218,6 +239,8 @@ int main(int argc, char **argv)
     expect(same_cells(desk.grid), "the cells are the paper's");
     expect(same_report(desk.session), "and so are the lines");
     unsound(desk, blocks[0]);
+    puts("other families");
+    other_families(desk, blocks[0]);
     puts("sending it");
     uint8_t *sheet = send(blocks[0], desk.grid);
     puts("reading it back");

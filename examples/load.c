@@ -1,11 +1,14 @@
-/* The Load button: load STATE <LINE
+/* The Load button: load STATE [FAMILY] <LINE
  * LINE is frames: a block's number in four bytes, the largest first, then its 1,024 bytes. STATE keeps session and grid between two
  * presses. Each refused frame gets a line `refused KIND BLOCK BYTE`; the last lines are the lister's four, or `unfinished TAKEN`.
+ * FAMILY is 0 for a USGS sheet or 1 for a Canadian one. Left out, it is STATE's own, and 0 where there is no STATE yet; it is never guessed
+ * from the bytes.
  *
  * Status 0: so it was, and STATE is on the disk.
  * Status 1: STATE, or the answers, could not be written. STATE is the one that was last written whole. Standard output has the refusals up
  *   to there and no last lines, so nobody takes them for an end.
- * Status 2: wrong usage, a STATE that is no whole state of ours, or another press at work on it. Nothing was read from the line.
+ * Status 2: wrong usage, a FAMILY that is none or another than STATE's, a STATE that is no whole state of ours, or another press at work on
+ *   it. Nothing was read from the line.
  *
  * STATE is never changed in place: STATE.new is written and synced, then renamed. STATE.lock is locked while a press is at work; the system
  * takes the lock away with the process, so the file may stay. Both names belong to the button. */
@@ -25,6 +28,7 @@
 
 enum { BLOCK = 1024, MOST_CELLS = 2048 * 2048, KEEP_EVERY = 64 };
 enum { DONE = 0, NOT_WRITTEN = 1, NOT_OURS = 2 };
+enum { NOT_NAMED = -1, NO_FAMILY = -2 };
 
 /* The file: these eight bytes; the count of numbers, the numbers; the count of cells, the cells; two sums. Counts and cells have four
  * bytes, numbers and sums eight, two's complement, the largest byte first. Nothing stands behind. */
@@ -231,10 +235,19 @@ static int read_state(int file, struct desk *desk, struct place *place)
     return status;
 }
 
-/* The desk as STATE has it, or a fresh one if there is no STATE. */
-static int begin(struct desk *desk, struct place *place)
+/* A press for another family than the sheet's is a slip of the hand: the sheet is not to be judged by rules that it was not begun with. */
+static int same_family(const struct desk *desk, const struct place *place, int family)
 {
-    dem_open(desk->session, DEM_SESSION);
+    if (family == NOT_NAMED || desk->session[DEM_FAMILY] == family)
+        return DONE;
+    return complain(NOT_OURS, family == DEM_USGS ? "its sheet is Canadian (1), not of family 0" : "its sheet is USGS (0), not of family 1",
+                    place->state);
+}
+
+/* The desk as STATE has it, or a fresh one if there is no STATE. */
+static int begin(struct desk *desk, struct place *place, int family)
+{
+    dem_open(family == NOT_NAMED ? DEM_USGS : (uint32_t)family, desk->session, DEM_SESSION);
     /* without blocking, for STATE may be the name of a pipe */
     int file = open(place->state, O_RDONLY | O_CLOEXEC | O_NONBLOCK);
     if (file < 0 && errno == ENOENT)
@@ -243,7 +256,7 @@ static int begin(struct desk *desk, struct place *place)
         return complain(errno == EISDIR || errno == ENXIO ? NOT_OURS : NOT_WRITTEN, strerror(errno), place->state);
     int status = read_state(file, desk, place);
     close(file);
-    return status;
+    return status == DONE ? same_family(desk, place, family) : status;
 }
 
 /* A new file of the old one's permissions, written and on the disk. */
@@ -371,7 +384,8 @@ static int make_room(struct desk *desk, uint32_t number, size_t length)
 {
     if (number != 0 || desk->session[DEM_TAKEN] != 0)
         return 1;
-    uint64_t cells = dem_columns(desk->block, length) * dem_rows(desk->block, length);
+    uint32_t family = (uint32_t)desk->session[DEM_FAMILY];
+    uint64_t cells = dem_family_columns(family, desk->block, length) * dem_family_rows(family, desk->block, length);
     return cells <= desk->cells || lend_grid(desk, (size_t)cells);
 }
 
@@ -417,13 +431,13 @@ static int fill_standard_files(void)
     return 1;
 }
 
-static int press(struct desk *desk, struct place *place, const char *name)
+static int press(struct desk *desk, struct place *place, const char *name, int family)
 {
     int status = find(place, name);
     if (status == DONE)
         status = lock(place);
     if (status == DONE)
-        status = begin(desk, place);
+        status = begin(desk, place, family);
     if (status == DONE) {
         unlink(place->fresh); /* what a killed press may have left */
         status = take_line(desk, place);
@@ -436,14 +450,25 @@ static int press(struct desk *desk, struct place *place, const char *name)
     return DONE;
 }
 
+/* One digit, as the families are numbered, and no other way to write it. */
+static int family_named(const char *text)
+{
+    if (!text)
+        return NOT_NAMED;
+    return strcmp(text, "0") == 0 ? DEM_USGS : strcmp(text, "1") == 0 ? DEM_CANADIAN : NO_FAMILY;
+}
+
 int main(int argc, char **argv)
 {
     if (!fill_standard_files())
         return NOT_WRITTEN;
-    if (argc != 2 || !*argv[1]) {
-        fprintf(stderr, "usage: load STATE <LINE\n");
+    if (argc < 2 || argc > 3 || !*argv[1]) {
+        fprintf(stderr, "usage: load STATE [FAMILY] <LINE\n");
         return NOT_OURS;
     }
+    int family = family_named(argv[2]); /* NULL, where FAMILY is left out */
+    if (family == NO_FAMILY)
+        return complain(NOT_OURS, "this is no family: 0 is USGS, 1 is Canadian", argv[2]);
     /* A disk quota and a reader that has gone are answers of write, not ends of the program. */
     signal(SIGXFSZ, SIG_IGN);
     signal(SIGPIPE, SIG_IGN);
@@ -452,7 +477,7 @@ int main(int argc, char **argv)
     struct place place = {NULL, NULL, NULL, NULL, 0, 0};
     if (!desk.session || !desk.answer || !desk.block || !lend_grid(&desk, 0))
         return complain(NOT_WRITTEN, "no memory", argv[1]);
-    int status = press(&desk, &place, argv[1]);
+    int status = press(&desk, &place, argv[1], family);
     free(desk.session);
     free(desk.grid);
     free(desk.answer);

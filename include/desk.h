@@ -37,12 +37,32 @@ uint32_t dem_record_a_byte(const uint8_t *block, size_t length);
 /* The origin of a record A, 1 to 6; 0 for any other text or length. */
 uint32_t dem_origin(const uint8_t *block, size_t length);
 
-/* How many bytes of a record A, from its first, are the sheet's name; 0 where it is blank, or for another length. */
+/* How many bytes of a record A, from its first, are the sheet's name; 0 where it is blank, or for another length. It is the same in each
+ * family. */
 size_t dem_name_length(const uint8_t *block, size_t length);
 
 /* Columns and rows of a record A, each 1 to 2048; 0 where it is refused. Columns x rows cells are to be lent for its sheet. */
 uint64_t dem_columns(const uint8_t *block, size_t length);
 uint64_t dem_rows(const uint8_t *block, size_t length);
+
+/* ---- The same by the rules of a family ----
+ *
+ * The calls above, and those that send a sheet, are for USGS sheets. The caller names the family: the bytes do not tell it, for there are
+ * records A that obey both. Any number may be asked of; one that is no family's is refused. */
+#define DEM_USGS 0
+#define DEM_CANADIAN 1 /* CDED level 1: 1201 profiles of 1201 posts, from 0.75 to 12 arc-seconds apart */
+
+/* Kind: 2 for a family that is none, after 1. Byte: 0 for these two. */
+uint32_t dem_family_record_a_kind(uint32_t family, const uint8_t *block, size_t length);
+uint32_t dem_family_record_a_byte(uint32_t family, const uint8_t *block, size_t length);
+
+/* The origin: of a Canadian sheet 1 to 15, for NTDB, BC, MB, NB, NL, NS, NT, NU, ON, PE, AB, QC, SK, YT, MULT. 0 for any other text,
+ * length or family. */
+uint32_t dem_family_origin(uint32_t family, const uint8_t *block, size_t length);
+
+/* 0 where the record A is refused; of a Canadian one, else 1201. */
+uint64_t dem_family_columns(uint32_t family, const uint8_t *block, size_t length);
+uint64_t dem_family_rows(uint32_t family, const uint8_t *block, size_t length);
 
 /* ---- Taking a sheet, block by block ----
  *
@@ -60,16 +80,19 @@ uint64_t dem_rows(const uint8_t *block, size_t length);
  *   28  the open profile: posts, row, datum (hundredths), stated least and greatest (billionths), posts read, cells filled, running least
  *       and greatest (hundredths)
  *   37  sum of the filled cells                   (hundredths)
- * Corners, extremes, datum and sum may be negative; a negative number elsewhere, or too few numbers, is an unsound session (2).
+ *   38  family
+ * Corners, extremes, datum and sum may be negative; a negative number elsewhere, or too few numbers, is an unsound session (2). So is any
+ * family but DEM_USGS and DEM_CANADIAN, whatever the other numbers are.
  *
  * The sum is exact and grows with the count of filled cells, block by block, also inside a profile. One further from zero than that count
  * x 4,276,700 is an unsound session too. A mean is the caller's own: sum / filled, where any are filled.
  *
  * The grid: cell = column x rows + row, from the south-western one; hundredths of the vertical unit. */
-#define DEM_SESSION 38         /* numbers of a session */
+#define DEM_SESSION 39         /* numbers of a session */
 #define DEM_TAKEN 20           /* where the blocks taken stand: the number of the block that is due */
 #define DEM_FILLED 23          /* where the cells filled stand */
 #define DEM_SUM 37             /* where their sum stands */
+#define DEM_FAMILY 38          /* where the family stands */
 #define DEM_VOID (-2147483647 - 1) /* a void cell */
 
 /* Results. 0: taken, or done. Else a kind:
@@ -80,14 +103,16 @@ uint64_t dem_rows(const uint8_t *block, size_t length);
  *    5  no text, or no blank                12  grid, or session, too short
  *    6  wrong form of a number              13  (writer) a cell that no post can say
  *    7  number out of range                 14  (writer) no such block
+ *   15  (Canadian) the corner written in degrees disagrees with the SW corner, at 110
  * What stands beside a kind is put into the answer, as many numbers of it as there is room for; the room past them stays as it is.
  * Taken, held and done put zeros there. */
 #define DEM_HELD 255 /* the block was taken before: nothing was read or changed */
 
-/* A fresh session; 12, and nothing changed, where there are fewer than DEM_SESSION numbers. */
-uint32_t dem_open(int64_t *session, size_t numbers);
+/* A fresh session of a family; 12, and nothing changed, where there are fewer than DEM_SESSION numbers. Any number is opened: one that is
+ * no family's makes an unsound session, refused 2 at the first delivery. */
+uint32_t dem_open(uint32_t family, int64_t *session, size_t numbers);
 
-/* One delivery: 0 taken, DEM_HELD, or a kind from 1 to 12. Answer: block, byte. */
+/* One delivery, judged by the rules of the session's family: 0 taken, DEM_HELD, or a kind from 1 to 12, or 15. Answer: block, byte. */
 uint32_t dem_deliver(int64_t *session, size_t numbers, uint32_t number, const uint8_t *block, size_t length, int32_t *grid, size_t cells,
                      uint64_t *answer, size_t room);
 
@@ -96,11 +121,11 @@ uint32_t dem_is_sound(const int64_t *session, size_t numbers);
 uint32_t dem_is_complete(const int64_t *session, size_t numbers);
 
 /* The lister's four lines of a complete session, and how many bytes they are; 0, and nothing written, where it is not complete or they
- * do not fit. DEM_REPORT bytes are always enough. */
+ * do not fit. DEM_REPORT bytes are always enough. An x or y spacing that is not whole has two decimals (0.75, 1.50). */
 #define DEM_REPORT 256
 size_t dem_report(const int64_t *session, size_t numbers, uint8_t *out, size_t length);
 
-/* ---- Sending a sheet: a template record A, and the grid ---- */
+/* ---- Sending a USGS sheet: a template record A, and the grid ---- */
 
 /* How many blocks the sheet has; 0 where template or grid is refused. */
 uint64_t dem_block_count(const uint8_t *record_a, size_t record_a_length, const int32_t *grid, size_t cells);

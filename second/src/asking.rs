@@ -137,7 +137,7 @@ impl<Asked: Question> Asking<Asked> {
     }
 
     /// The program must end well once it is asked nothing more.
-    fn done(self) -> Result<(), String> {
+    pub fn done(self) -> Result<(), String> {
         let Asking {
             mut child,
             questions,

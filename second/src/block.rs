@@ -47,7 +47,12 @@ pub fn demand(holds: bool, kind: u32, byte: usize) -> Result<(), Fault> {
 }
 
 pub fn integer(block: &[u8], first: usize) -> Result<i64, Fault> {
-    let (kind, value) = number::integer(stretch(block, first, first + INTEGER_WIDTH - 1));
+    integer_of(block, first, INTEGER_WIDTH)
+}
+
+/// An integer of another width than most.
+pub fn integer_of(block: &[u8], first: usize, width: usize) -> Result<i64, Fault> {
+    let (kind, value) = number::integer(stretch(block, first, first + width - 1));
     demand(kind == number::FINE, kind, first)?;
     Ok(value)
 }
@@ -73,6 +78,11 @@ pub fn real(block: &[u8], first: usize, width: usize) -> Result<i64, Fault> {
 
 /// Nothing but blanks from byte `first` to the block's end, judged together (READINGS 18).
 pub fn blank_rest(block: &[u8], first: usize) -> Result<(), Fault> {
-    let rest = stretch(block, first, BLOCK_LENGTH);
-    demand(rest.iter().all(|&byte| byte == b' '), WRONG_TEXT, first)
+    blank(block, first, BLOCK_LENGTH)
+}
+
+/// A stretch of filler.
+pub fn blank(block: &[u8], first: usize, last: usize) -> Result<(), Fault> {
+    let filler = stretch(block, first, last);
+    demand(filler.iter().all(|&byte| byte == b' '), WRONG_TEXT, first)
 }

@@ -244,7 +244,7 @@ impl Counts {
     pub fn print(&self, title: &str, wanted: &[impl AsRef<str>]) {
         println!("{title}");
         for name in wanted.iter().map(AsRef::as_ref) {
-            println!("  {name:<28} {:>7}", self.times.get(name).unwrap_or(&0));
+            println!("  {name:<40} {:>7}", self.times.get(name).unwrap_or(&0));
         }
     }
 

@@ -3,6 +3,7 @@
 
 pub mod alter;
 pub mod blocks;
+pub mod families;
 pub mod sessions;
 pub mod sums;
 
@@ -15,13 +16,15 @@ use crate::sheets::aimed::damaged_profile_block;
 use crate::sheets::posts::OUTERMOST;
 use crate::sheets::{head, Sent};
 
-/// A grid is made as long as its session asks for up to here; a longer one stays short.
+/// A grid is made as long as its session asks for up to here; in place of a longer one there are
+/// a few cells. Canadian sheets get all of theirs from compare_canadian.
 const MOST_CELLS: usize = 30_000;
 
-/// A delivery, and which number of a sound session was altered for it, if just one was.
+/// A delivery, and which number of a sound session of which family was altered for it, if just
+/// one was.
 pub struct Crafted {
     pub delivery: Delivery,
-    pub altered: Option<usize>,
+    pub altered: Option<(i64, usize)>,
 }
 
 /// What is done with a delivery once it is made.
@@ -77,6 +80,26 @@ pub const FAMILIES: &[Family] = &[
         name: "the largest sheet",
         make: the_largest_sheet,
     },
+    Family {
+        name: "Canadian, the block awaited",
+        make: families::the_block_awaited,
+    },
+    Family {
+        name: "Canadian, one number altered",
+        make: families::one_number_altered,
+    },
+    Family {
+        name: "Canadian, several altered",
+        make: families::several_numbers_altered,
+    },
+    Family {
+        name: "Canadian, bent at a clause",
+        make: families::bent,
+    },
+    Family {
+        name: "another family",
+        make: families::another_family,
+    },
 ];
 
 /// A delivery to this session of the block it awaits, which may move its stated extremes.
@@ -105,7 +128,7 @@ fn with_more(dice: &mut Dice, kept: &Kept) -> Vec<i64> {
 /// Cells of the sheet, which for a fresh session only its block 0 knows.
 fn cells_of(kept: &Kept, sent: &Sent) -> usize {
     match kept.taken {
-        0 => record_a::check(&sent.bytes).map_or(1, |header| header.cells()),
+        0 => record_a::check_of(kept.header.family, &sent.bytes).map_or(1, |header| header.cells()),
         _ => kept.header.cells(),
     }
 }
@@ -113,7 +136,8 @@ fn cells_of(kept: &Kept, sent: &Sent) -> usize {
 /// Most often just long enough; what it holds is no delivery's work.
 fn grid(dice: &mut Dice, need: usize) -> Vec<i32> {
     let spare = dice.size(1, 9);
-    let length = need.min(MOST_CELLS) + *dice.pick(&[0, 0, 1, spare]);
+    let need = if need > MOST_CELLS { 0 } else { need };
+    let length = need + *dice.pick(&[0, 0, 1, spare]);
     filled_grid(dice, length)
 }
 
@@ -142,18 +166,22 @@ fn the_block_awaited(dice: &mut Dice, visit: &mut Visit) {
 /// delivery is of the block that the session awaited before.
 fn one_number_altered(dice: &mut Dice, visit: &mut Visit) {
     for turn in 0..90 {
-        let mut kept = sessions::of_stage(dice, turn % sessions::STAGES);
-        let (base, _) = awaited(dice, &mut kept);
-        for place in 0..NUMBERS {
-            for value in alter::telling(&kept, place) {
-                let mut delivery = base.clone();
-                delivery.numbers[place] = value;
-                fit(dice, &mut delivery);
-                visit(Crafted {
-                    delivery,
-                    altered: Some(place),
-                });
-            }
+        let kept = sessions::of_stage(dice, turn % sessions::STAGES);
+        alter_each_number(dice, kept, visit);
+    }
+}
+
+fn alter_each_number(dice: &mut Dice, mut kept: Kept, visit: &mut Visit) {
+    let (base, _) = awaited(dice, &mut kept);
+    for place in 0..NUMBERS {
+        for value in alter::telling(&kept, place) {
+            let mut delivery = base.clone();
+            delivery.numbers[place] = value;
+            fit(dice, &mut delivery);
+            visit(Crafted {
+                delivery,
+                altered: Some((kept.header.family, place)),
+            });
         }
     }
 }
@@ -172,16 +200,20 @@ fn fit(dice: &mut Dice, delivery: &mut Delivery) {
 
 fn several_numbers_altered(dice: &mut Dice, visit: &mut Visit) {
     for _ in 0..14_000 {
-        let mut kept = sessions::any(dice);
-        let (mut delivery, _) = awaited(dice, &mut kept);
-        for _ in 0..dice.size(2, 4) {
-            let place = dice.size(0, NUMBERS - 1);
-            let values = alter::telling(&kept, place);
-            delivery.numbers[place] = *dice.pick(&values);
-        }
-        fit(dice, &mut delivery);
-        visit(plain(delivery));
+        let kept = sessions::any(dice);
+        alter_several(dice, kept, visit);
     }
+}
+
+fn alter_several(dice: &mut Dice, mut kept: Kept, visit: &mut Visit) {
+    let (mut delivery, _) = awaited(dice, &mut kept);
+    for _ in 0..dice.size(2, 4) {
+        let place = dice.size(0, NUMBERS - 1);
+        let values = alter::telling(&kept, place);
+        delivery.numbers[place] = *dice.pick(&values);
+    }
+    fit(dice, &mut delivery);
+    visit(plain(delivery));
 }
 
 /// No columns or rows, one, 2048, one more; with n at the columns and past them.

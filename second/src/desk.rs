@@ -2,7 +2,8 @@
 //! `examples/answers.c`: what is lent, and every number and byte that must come back.
 
 use crate::asking::Question;
-use crate::kept::{self, Told, DONE, NAMES, NUMBERS};
+use crate::family::USGS;
+use crate::kept::{self, Kept, Told, DONE, NAMES, NUMBERS};
 use crate::kind::{GRID_TOO_SHORT, WRONG_LENGTH};
 use crate::meaning::Block;
 use crate::record_a;
@@ -101,16 +102,18 @@ fn unwritten(length: usize) -> Vec<u8> {
     (0..length).map(|place| (place * 31 + 7) as u8).collect()
 }
 
-pub fn open(numbers: &[i64]) -> Call {
+/// Any family opens (READINGS-02, 2.2).
+pub fn open(family: u32, numbers: &[i64]) -> Call {
     let mut after = numbers.to_vec();
     let result = match after.get_mut(..NUMBERS) {
         None => GRID_TOO_SHORT,
         Some(session) => {
-            session.fill(0);
+            session.copy_from_slice(&Kept::opened(family.into()).numbers());
             DONE
         }
     };
     Call::new(b'o')
+        .says("family", family as usize)
         .lends(SESSION, &of_numbers(numbers))
         .gets_result(result)
         .gets(SESSION, &of_numbers(&after))
@@ -162,6 +165,62 @@ impl Delivery {
     }
 }
 
+/// The C side keeps one grid, of so many cells that all hold this, for deliveries to large sheets.
+pub fn keep_grid(cells: usize, held: i32) -> Call {
+    Call::new(b'G')
+        .says("cells", cells)
+        .says("held", held as u32 as usize)
+}
+
+/// A stretch of that grid, by its first cell and its last but one.
+pub type Window = std::ops::Range<usize>;
+
+/// A stretch of that grid as it must be now.
+pub fn look_at_grid(window: Window, grid: &[i32]) -> Call {
+    Call::new(b'k')
+        .says("first", window.start)
+        .says("count", window.len())
+        .gets("cells", &of_cells(&grid[window]))
+}
+
+/// What a delivery into the front of that grid is given, and the stretch of it that is handed
+/// back: at least all the cells that the block may have to do with.
+#[derive(Clone, Debug)]
+pub struct Placed {
+    pub numbers: Vec<i64>,
+    pub number: u32,
+    pub block: Block,
+    pub lent: usize,
+    pub window: Window,
+    pub room: usize,
+}
+
+impl Placed {
+    /// What the reading of sessions as numbers says; `grid` is what the C side's must be.
+    pub fn leaves(&self, grid: &mut [i32]) -> (Told, Vec<i64>) {
+        let mut numbers = self.numbers.clone();
+        let lent = &mut grid[..self.lent];
+        let told = kept::deliver(&mut numbers, self.number, &self.block, lent);
+        (told, numbers)
+    }
+
+    pub fn call(&self, told: Told, numbers: &[i64], grid: &[i32]) -> Call {
+        let beside = [told.block, told.byte].map(u64::from);
+        Call::new(b'D')
+            .lends(SESSION, &of_numbers(&self.numbers))
+            .says("number", self.number as usize)
+            .lends("block", &of_bytes(&self.block))
+            .says("lent", self.lent)
+            .says("first", self.window.start)
+            .says("count", self.window.len())
+            .says("room", self.room)
+            .gets_result(told.result)
+            .gets(SESSION, &of_numbers(numbers))
+            .gets("cells", &of_cells(&grid[self.window.clone()]))
+            .gets_slots(&beside, self.room)
+    }
+}
+
 /// Sound, complete, and the report into a buffer of `length` bytes.
 pub fn session(numbers: &[i64], length: usize) -> Call {
     let kept = kept::sound(numbers);
@@ -184,12 +243,45 @@ pub fn session(numbers: &[i64], length: usize) -> Call {
 
 /// Columns and rows of a record A, zeros where it is refused.
 pub fn columns(block: &[u8]) -> Call {
-    let size = |header: record_a::Header| [header.columns().count(), header.rows().count()];
-    let [columns, rows] = record_a::check(block).map_or([0, 0], size);
+    let [columns, rows] = record_a::size_of(USGS, block);
     Call::new(b'c')
         .lends("block", &of_bytes(block))
         .gets("columns", &[columns.to_le_bytes()])
         .gets("rows", &[rows.to_le_bytes()])
+}
+
+/// What the calls with a family say of a record A.
+#[derive(Clone, Copy, Debug, PartialEq)]
+pub struct OfFamily {
+    pub kind: u32,
+    pub byte: u32,
+    pub origin: u32,
+    pub size: [i64; 2],
+}
+
+impl OfFamily {
+    pub fn of(family: u32, block: &[u8]) -> OfFamily {
+        let family = family.into();
+        let (kind, byte) = record_a::check_of(family, block).err().unwrap_or((0, 0));
+        OfFamily {
+            kind,
+            byte,
+            origin: record_a::origin_of(family, block),
+            size: record_a::size_of(family, block),
+        }
+    }
+
+    pub fn call(&self, family: u32, block: &[u8]) -> Call {
+        let [columns, rows] = self.size;
+        Call::new(b'F')
+            .says("family", family as usize)
+            .lends("block", &of_bytes(block))
+            .gets("kind", &[self.kind.to_le_bytes()])
+            .gets("byte", &[self.byte.to_le_bytes()])
+            .gets("origin", &[self.origin.to_le_bytes()])
+            .gets("columns", &[columns.to_le_bytes()])
+            .gets("rows", &[rows.to_le_bytes()])
+    }
 }
 
 /// What the writer is given: for one block, whose lent bytes are known, or for a sheet.
@@ -298,7 +390,9 @@ impl Call {
         let mut frame = vec![self.sort];
         frame.extend((self.bytes.len() as u32).to_le_bytes());
         frame.extend(&self.bytes);
-        let kept = std::env::temp_dir().join("compare_desk.input");
+        let own = std::env::args().next().unwrap_or_default();
+        let own = std::path::Path::new(&own).file_name().unwrap_or_default();
+        let kept = std::env::temp_dir().join(own).with_extension("input");
         match std::fs::write(&kept, frame) {
             Ok(()) => println!("the request is kept in {}", kept.display()),
             Err(fault) => println!("the request cannot be kept: {fault}"),

@@ -1,5 +1,6 @@
 //! Blocks to compare two checks of a record A on, family by family.
 
+pub mod canadian;
 mod lattices;
 mod wrong;
 
@@ -52,6 +53,10 @@ pub const FAMILIES: &[Family] = &[
     Family {
         name: "random bytes",
         make: wrong::random_bytes,
+    },
+    Family {
+        name: "Canadian blocks",
+        make: canadian::some_of_all,
     },
 ];
 

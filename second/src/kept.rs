@@ -1,10 +1,11 @@
-//! A session as the desk keeps it: 38 numbers, handed in and back with every call (DESIGN,
+//! A session as the desk keeps it: 39 numbers, handed in and back with every call (DESIGN,
 //! "The desk in C"). Which numbers are sound, and what one delivery makes of them, stand
 //! here a second time; load.rs knows only blocks, so the two can be held together.
 
 pub mod clauses;
 
 use crate::block::{Record, BLOCK_LENGTH, HUNDREDTH};
+use crate::family::USGS;
 use crate::kind::{GRID_TOO_SHORT, SHEET_COMPLETE, TOO_EARLY, UNSOUND, WRONG_LENGTH};
 use crate::lister;
 use crate::meaning::{demand_extreme, in_block, Figures, Refusal, Sheet, VOID_CELL};
@@ -15,7 +16,7 @@ use crate::record_a::{self, Header};
 use crate::record_c;
 
 /// How many numbers a session has.
-pub const NUMBERS: usize = 38;
+pub const NUMBERS: usize = 39;
 pub const NAMES: [&str; NUMBERS] = [
     "level",
     "system",
@@ -55,6 +56,7 @@ pub const NAMES: [&str; NUMBERS] = [
     "open low",
     "open high",
     "sum",
+    "family",
 ];
 
 /// Where some of them stand.
@@ -64,6 +66,7 @@ pub mod place {
     pub const FINISHED: usize = 27;
     pub const OPEN_POSTS: usize = 28;
     pub const SUM: usize = 37;
+    pub const FAMILY: usize = 38;
 }
 
 /// The result of a delivery that is held; taken and done are 0.
@@ -117,7 +120,7 @@ pub struct Told {
 }
 
 impl Kept {
-    /// The session that the first 38 numbers say.
+    /// The session that the first 39 numbers say.
     pub fn of(numbers: &[i64]) -> Kept {
         let running = |first: usize| Running {
             filled: numbers[first],
@@ -125,7 +128,7 @@ impl Kept {
             high: numbers[first + 2],
         };
         Kept {
-            header: header_of(&numbers[..20]),
+            header: header_of(numbers[place::FAMILY], &numbers[..20]),
             taken: numbers[20],
             closed: numbers[21],
             posts: numbers[22],
@@ -146,7 +149,15 @@ impl Kept {
     }
 
     pub fn fresh() -> Kept {
-        Kept::of(&[0; NUMBERS])
+        Kept::opened(USGS)
+    }
+
+    /// "The caller names the family when opening a session; a fresh session has all else zero"
+    /// (02, request 2).
+    pub fn opened(family: i64) -> Kept {
+        let mut numbers = [0; NUMBERS];
+        numbers[place::FAMILY] = family;
+        Kept::of(&numbers)
     }
 
     /// What the blocks of this text leave; read off the text, not stepped to.
@@ -194,6 +205,7 @@ impl Kept {
             open.running.low,
             open.running.high,
             self.sum,
+            header.family,
         ]);
         numbers
     }
@@ -239,8 +251,9 @@ impl Kept {
     }
 }
 
-fn header_of(numbers: &[i64]) -> Header {
+fn header_of(family: i64, numbers: &[i64]) -> Header {
     Header {
+        family,
         level: numbers[0],
         system: numbers[1],
         zone: numbers[2],
@@ -322,7 +335,7 @@ impl Running {
     }
 }
 
-/// The session that lent numbers say, if it is sound. Numbers past the 38th are not
+/// The session that lent numbers say, if it is sound. Numbers past the 39th are not
 /// looked at.
 pub fn sound(numbers: &[i64]) -> Option<Kept> {
     clauses::broken(numbers)
@@ -380,7 +393,7 @@ impl Kept {
         let here = |fault| in_block(number, fault);
         match awaited {
             Record::Header => {
-                let header = record_a::check(block).map_err(here)?;
+                let header = record_a::check_of(self.header.family, block).map_err(here)?;
                 return self.begin(header, grid);
             }
             Record::Statistics => {

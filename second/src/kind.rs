@@ -15,3 +15,5 @@ pub const WRONG_EXTREME: u32 = 11;
 pub const GRID_TOO_SHORT: u32 = 12;
 pub const UNFIT_CELL: u32 = 13;
 pub const NO_SUCH_BLOCK: u32 = 14;
+/// Request 2 of document 02: the corner in text is not the corner in numbers.
+pub const CORNER_DISAGREES: u32 = 15;

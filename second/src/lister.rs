@@ -2,7 +2,7 @@
 //! out. The whole input is read once as one text. That says the same as delivering block
 //! after block, since a block's fault depends on the blocks before it and on no later one.
 
-use crate::block::{BLOCK_LENGTH, UNIT};
+use crate::block::{BLOCK_LENGTH, HUNDREDTH, UNIT};
 use crate::kind::{GRID_TOO_SHORT, SHEET_COMPLETE, WRONG_LENGTH};
 use crate::meaning::{in_block, read, Block, Figures, Refusal, Sheet};
 use crate::record_a::{self, Header};
@@ -61,8 +61,8 @@ pub fn lines(header: &Header, figures: &Figures, blocks: usize) -> String {
         "sheet {} {} {} {} {}\nposts {} void {}\nrange {} {}\nend {}\n",
         header.rows().count(),
         header.columns().count(),
-        header.x_spacing / UNIT,
-        header.y_spacing / UNIT,
+        ground_spacing(header.x_spacing),
+        ground_spacing(header.y_spacing),
         two_decimals(header.step()),
         figures.posts,
         figures.posts - figures.filled,
@@ -70,6 +70,14 @@ pub fn lines(header: &Header, figures: &Figures, blocks: usize) -> String {
         two_decimals(figures.greatest),
         blocks
     )
+}
+
+/// Whole units as such, a spacing that is not whole with two decimals (DESIGN, request 2).
+fn ground_spacing(spacing: i64) -> String {
+    match spacing % UNIT {
+        0 => (spacing / UNIT).to_string(),
+        _ => two_decimals(spacing / HUNDREDTH),
+    }
 }
 
 /// The sign is written apart: -5 hundredths have no whole part to carry it.

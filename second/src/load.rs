@@ -1,12 +1,15 @@
-//! A plain loader. Its session is the list of blocks taken and nothing else: whatever
-//! is asked of it is read again from those blocks, joined as one text.
+//! A plain loader. Its session is the list of blocks taken and the family named when it was
+//! opened, nothing else: whatever is asked of it is read again from those blocks, joined as one
+//! text.
 
 use crate::block::{Record, BLOCK_LENGTH};
-use crate::kind::{GRID_TOO_SHORT, SHEET_COMPLETE, TOO_EARLY, WRONG_LENGTH};
+use crate::family::is_known;
+use crate::kind::{GRID_TOO_SHORT, SHEET_COMPLETE, TOO_EARLY, UNSOUND, WRONG_LENGTH};
 use crate::meaning::{self, sum_of_cells, Block, Figures, Refusal, Sheet};
 
 #[derive(Clone, Debug, Default, PartialEq)]
 pub struct Session {
+    family: i64,
     taken: Vec<Block>,
 }
 
@@ -22,6 +25,14 @@ impl Session {
         Session::default()
     }
 
+    /// Any number opens; a family that nobody knows is met at the delivery (READINGS-02, 2.2).
+    pub fn opened(family: i64) -> Session {
+        Session {
+            family,
+            taken: Vec::new(),
+        }
+    }
+
     pub fn taken(&self) -> usize {
         self.taken.len()
     }
@@ -31,7 +42,8 @@ impl Session {
         if self.taken.is_empty() {
             return None;
         }
-        Some(meaning::read(&self.taken).expect("a block is taken only if all read well"))
+        let sheet = meaning::read_of(self.family, &self.taken);
+        Some(sheet.expect("a block is taken only if all read well"))
     }
 
     pub fn figures(&self) -> Figures {
@@ -57,6 +69,9 @@ pub fn deliver(session: &mut Session, number: u32, bytes: &[u8], grid: &mut [i32
     if bytes.len() != BLOCK_LENGTH {
         return refused(WRONG_LENGTH, number);
     }
+    if !is_known(session.family) {
+        return refused(UNSOUND, number);
+    }
     let next = session.taken() as u32;
     if number < next {
         return Answer::Held;
@@ -79,7 +94,7 @@ pub fn deliver(session: &mut Session, number: u32, bytes: &[u8], grid: &mut [i32
 fn read_on(session: &mut Session, number: u32, bytes: &[u8], grid: &mut [i32]) -> Answer {
     let mut text = session.taken.clone();
     text.push(bytes.to_vec());
-    let sheet = match meaning::read(&text) {
+    let sheet = match meaning::read_of(session.family, &text) {
         Err(refusal) => return Answer::Refused(refusal),
         Ok(sheet) => sheet,
     };

@@ -2,6 +2,7 @@
 //! number is carried from one delivery to the next.
 
 use crate::block::{Fault, Record, HUNDREDTH};
+use crate::family::USGS;
 use crate::kind::WRONG_EXTREME;
 use crate::profile::{Profile, Turn};
 use crate::record_a::{self, Header};
@@ -51,9 +52,14 @@ pub struct Figures {
     pub sum: i64,
 }
 
-/// Reads a text of one block or more, up to its end or that of the sheet.
+/// Reads a USGS text of one block or more, up to its end or that of the sheet.
 pub fn read(text: &[Block]) -> Result<Sheet, Refusal> {
-    let header = record_a::check(&text[0]).map_err(|fault| in_block(0, fault))?;
+    read_of(USGS, text)
+}
+
+/// The same for a family.
+pub fn read_of(family: i64, text: &[Block]) -> Result<Sheet, Refusal> {
+    let header = record_a::check_of(family, &text[0]).map_err(|fault| in_block(0, fault))?;
     let mut sheet = Sheet {
         header,
         profiles: Vec::new(),

@@ -4,7 +4,7 @@ use crate::block::{
     blank_rest, demand, integer_within, real, Fault, HUNDREDTH, INTEGER_WIDTH, REAL_WIDTH, UNIT,
 };
 use crate::kind::{OUT_OF_RANGE, WRONG_CODE, WRONG_PLACE};
-use crate::record_a::{Header, MOST};
+use crate::record_a::Header;
 
 pub const POSTS_OF_FIRST_BLOCK: usize = 146;
 pub const POSTS_OF_FURTHER_BLOCK: usize = 170;
@@ -39,7 +39,8 @@ impl Profile {
         let number = turn.number;
         integer_within(block, 1, 1..=1, WRONG_CODE)?;
         integer_within(block, 7, number..=number, WRONG_CODE)?;
-        let length = integer_within(block, 13, 1..=MOST, OUT_OF_RANGE)? as usize;
+        let permitted = header.rules().posts.clone();
+        let length = integer_within(block, 13, permitted, OUT_OF_RANGE)? as usize;
         integer_within(block, 19, 1..=1, WRONG_CODE)?;
         let x = real(block, 25, REAL_WIDTH)?;
         let y = real(block, 49, REAL_WIDTH)?;

@@ -1,21 +1,26 @@
 //! Record A, block 0: its fields in the order of their bytes, then the rules over the
-//! whole record; and the two readings that ask nothing else of a block, origin and name.
+//! whole record; and the two readings that ask nothing else of a block, origin and name. The
+//! family is what the caller says it is: some blocks obey the rules of both (READINGS-02, 2.17).
 
 use crate::block::{
-    demand, integer_within, real, stretch, Fault, BLOCK_LENGTH, HUNDREDTH, REAL_WIDTH,
+    blank, demand, integer_within, real, stretch, Fault, BLOCK_LENGTH, HUNDREDTH, REAL_WIDTH,
     SPACING_WIDTH, UNIT,
 };
-use crate::kind::{OUT_OF_RANGE, WRONG_CODE, WRONG_FORM, WRONG_LENGTH, WRONG_PLACE, WRONG_TEXT};
+use crate::corner_text::{angle, LATITUDE, LONGITUDE};
+pub use crate::family::MOST;
+use crate::family::{is_ground_spacing, rules_of, Rules, USGS};
+use crate::kind::{
+    CORNER_DISAGREES, OUT_OF_RANGE, UNSOUND, WRONG_CODE, WRONG_FORM, WRONG_LENGTH, WRONG_PLACE,
+    WRONG_TEXT,
+};
 use crate::lattice::Axis;
 use crate::number;
-use std::ops::RangeInclusive;
 
-/// Most columns, most rows, most profiles and most posts of a profile.
-pub const MOST: i64 = 2048;
-
-/// What a loader keeps of block 0 (READINGS 24). Reals are in billionths.
+/// What a loader keeps of block 0 (READINGS 24), and the family it was read as. Reals are in
+/// billionths.
 #[derive(Clone, Debug, PartialEq)]
 pub struct Header {
+    pub family: i64,
     pub level: i64,
     pub system: i64,
     pub zone: i64,
@@ -32,37 +37,77 @@ pub struct Header {
     pub n: i64,
 }
 
-/// The header, or the first fault as kind and byte.
+/// The header of a USGS sheet, or the first fault as kind and byte.
 pub fn check(block: &[u8]) -> Result<Header, Fault> {
+    check_of(USGS, block)
+}
+
+/// The same for a family; one that nobody knows is told after the length (READINGS-02, 2.15).
+pub fn check_of(family: i64, block: &[u8]) -> Result<Header, Fault> {
     demand(block.len() == BLOCK_LENGTH, WRONG_LENGTH, 0)?;
-    let header = read_fields(block)?;
-    check_whole_record(&header)?;
+    let rules = rules_of(family).ok_or((UNSOUND, 0))?;
+    let written_corner = read_front(block, family)?;
+    let header = read_fields(block, family, rules)?;
+    check_corner(&header, written_corner)?;
+    check_whole_record(&header, rules)?;
     Ok(header)
 }
 
-fn read_fields(block: &[u8]) -> Result<Header, Fault> {
-    check_text(block, 1, 144)?;
-    let level = integer_within(block, 145, 1..=3, WRONG_CODE)?;
-    integer_within(block, 151, 1..=1, WRONG_CODE)?;
-    let system = integer_within(block, 157, 0..=2, WRONG_CODE)?;
-    let zone = integer_within(block, 163, zones_of(system), WRONG_CODE)?;
+/// The south-west corner, longitude and latitude, where it is written out in bytes 110 to 135.
+type WrittenCorner = Option<[i64; 2]>;
+
+/// Bytes 1 to 144.
+fn read_front(block: &[u8], family: i64) -> Result<WrittenCorner, Fault> {
+    match family {
+        USGS => read_usgs_front(block),
+        _ => read_canadian_front(block),
+    }
+}
+
+fn read_usgs_front(block: &[u8]) -> Result<WrittenCorner, Fault> {
+    check_text(block, 1, 144, is_upper_text)?;
+    Ok(None)
+}
+
+/// Each named part is a stretch of its own, each number a field (READINGS-02, 2.3, 2.5).
+fn read_canadian_front(block: &[u8]) -> Result<WrittenCorner, Fault> {
+    // "The name (bytes 1-40) and producer (41-100) may have lower case."
+    check_text(block, 1, 40, is_text)?;
+    check_text(block, 41, 100, is_text)?;
+    // "Bytes 101-109 and 137 are blank."
+    blank(block, 101, 109)?;
+    let corner = [angle(block, LONGITUDE)?, angle(block, LATITUDE)?];
+    check_text(block, 136, 136, is_upper_text)?;
+    blank(block, 137, 137)?;
+    check_text(block, 138, 144, is_upper_text)?;
+    Ok(Some(corner))
+}
+
+/// Bytes 145 to 1024, by the same table for both families.
+fn read_fields(block: &[u8], family: i64, rules: &Rules) -> Result<Header, Fault> {
+    let code = |first, permitted| integer_within(block, first, permitted, WRONG_CODE);
+    let level = code(145, rules.levels.clone())?;
+    code(151, 1..=1)?;
+    let system = code(157, rules.systems.clone())?;
+    let zone = code(163, (rules.zones)(system))?;
     check_projection_reals(block)?;
-    let ground_unit = integer_within(block, 529, ground_units_of(system), WRONG_CODE)?;
-    let vertical_unit = integer_within(block, 535, 1..=2, WRONG_CODE)?;
-    integer_within(block, 541, 4..=4, WRONG_CODE)?;
+    let ground_unit = code(529, (rules.ground_units)(system))?;
+    let vertical_unit = code(535, rules.vertical_units.clone())?;
+    code(541, 4..=4)?;
     let corners = read_corners(block)?;
     let stated_least = real(block, 739, REAL_WIDTH)?;
     let stated_greatest = real(block, 763, REAL_WIDTH)?;
     let angle = real(block, 787, REAL_WIDTH)?;
     demand(angle == 0, WRONG_CODE, 787)?;
-    let accuracy = integer_within(block, 811, 0..=1, WRONG_CODE)?;
-    let x_spacing = read_ground_spacing(block, 817)?;
-    let y_spacing = read_ground_spacing(block, 829)?;
+    let accuracy = code(811, rules.accuracies.clone())?;
+    let x_spacing = read_ground_spacing(block, 817, rules)?;
+    let y_spacing = read_ground_spacing(block, 829, rules)?;
     let z_spacing = read_height_spacing(block, 841, vertical_unit)?;
-    integer_within(block, 853, 1..=1, WRONG_CODE)?;
-    let n = integer_within(block, 859, 1..=MOST, OUT_OF_RANGE)?;
-    check_text(block, 865, BLOCK_LENGTH)?;
+    code(853, 1..=1)?;
+    let n = integer_within(block, 859, rules.profiles.clone(), OUT_OF_RANGE)?;
+    check_text(block, 865, BLOCK_LENGTH, is_upper_text)?;
     Ok(Header {
+        family,
         level,
         system,
         zone,
@@ -79,27 +124,23 @@ fn read_fields(block: &[u8]) -> Result<Header, Fault> {
     })
 }
 
+fn is_text(byte: &u8) -> bool {
+    (32..=126).contains(byte)
+}
+
+fn is_upper_text(byte: &u8) -> bool {
+    is_text(byte) && !byte.is_ascii_lowercase()
+}
+
 /// One stretch, whichever of its bytes is wrong (READINGS 10).
-fn check_text(block: &[u8], first: usize, last: usize) -> Result<(), Fault> {
-    let permitted = |byte: &u8| (32..=126).contains(byte) && !byte.is_ascii_lowercase();
+fn check_text(
+    block: &[u8],
+    first: usize,
+    last: usize,
+    permitted: fn(&u8) -> bool,
+) -> Result<(), Fault> {
     let all_permitted = stretch(block, first, last).iter().all(permitted);
     demand(all_permitted, WRONG_TEXT, first)
-}
-
-pub fn zones_of(system: i64) -> RangeInclusive<i64> {
-    match system {
-        0 => 0..=0,
-        1 => 1..=60,
-        _ => 1..=9999,
-    }
-}
-
-pub fn ground_units_of(system: i64) -> RangeInclusive<i64> {
-    match system {
-        0 => 3..=3,
-        1 => 2..=2,
-        _ => 1..=2,
-    }
 }
 
 /// Only their form is judged: a number too large or too fine passes (READINGS 11).
@@ -119,11 +160,12 @@ fn read_corners(block: &[u8]) -> Result<[i64; 8], Fault> {
     Ok(corners)
 }
 
-fn read_ground_spacing(block: &[u8], first: usize) -> Result<i64, Fault> {
+/// Where spacings are listed in pairs there is no rule here: any real passes, zero and negative
+/// ones too, up to the rules over the whole record.
+fn read_ground_spacing(block: &[u8], first: usize, rules: &Rules) -> Result<i64, Fault> {
     let spacing = real(block, first, SPACING_WIDTH)?;
-    let whole = spacing % UNIT == 0;
-    let permitted = (UNIT..=9999 * UNIT).contains(&spacing);
-    demand(whole && permitted, OUT_OF_RANGE, first)?;
+    let permitted = rules.pairs.is_some() || is_ground_spacing(spacing);
+    demand(permitted, OUT_OF_RANGE, first)?;
     Ok(spacing)
 }
 
@@ -140,18 +182,36 @@ fn read_height_spacing(block: &[u8], first: usize, vertical_unit: i64) -> Result
     Ok(spacing)
 }
 
-/// In the order 547, 817, 859 (READINGS 13).
-fn check_whole_record(header: &Header) -> Result<(), Fault> {
+/// "Ahead of the other whole-record rules": the corner in text must be that in numbers.
+fn check_corner(header: &Header, written: WrittenCorner) -> Result<(), Fault> {
+    let [x, y, ..] = header.corners;
+    demand(
+        written.is_none_or(|corner| corner == [x, y]),
+        CORNER_DISAGREES,
+        110,
+    )
+}
+
+/// In the order 817 for a pair that is not listed, then 547, 817, 859 (READINGS 13; READINGS-02,
+/// 2.10). No lattice is looked at before its spacings are known to be above zero.
+fn check_whole_record(header: &Header, rules: &Rules) -> Result<(), Fault> {
+    let spacings = rules.allow_spacings(header.x_spacing, header.y_spacing);
+    demand(spacings, OUT_OF_RANGE, 817)?;
     let [sw_x, sw_y, nw_x, nw_y, ne_x, ne_y, se_x, se_y] = header.corners;
     let in_order = sw_x < se_x && nw_x < ne_x && sw_y < nw_y && se_y < ne_y;
     demand(in_order, WRONG_PLACE, 547)?;
     let (columns, rows) = (header.columns().count(), header.rows().count());
-    let permitted = (1..=MOST).contains(&columns) && (1..=MOST).contains(&rows);
+    let permitted = rules.sides.contains(&columns) && rules.sides.contains(&rows);
     demand(permitted, WRONG_PLACE, 817)?;
     demand(header.n <= columns, WRONG_PLACE, 859)
 }
 
 impl Header {
+    /// Those it was read by.
+    pub fn rules(&self) -> &'static Rules {
+        rules_of(self.family).expect("a header is read by the rules of a family")
+    }
+
     pub fn columns(&self) -> Axis {
         let [sw, _, nw, _, ne, _, se, _] = self.corners;
         axis_over([sw, nw, ne, se], self.x_spacing)
@@ -178,16 +238,23 @@ fn axis_over(values: [i64; 4], spacing: i64) -> Axis {
     Axis::between(a.min(b).min(c).min(d), a.max(b).max(c).max(d), spacing)
 }
 
-const ORIGINS: [&[u8; 4]; 6] = [b"MAC ", b"GPM2", b"MCMC", b"RMMC", b"WMC ", b"FS  "];
-
 /// 1 to 6 for the known mapping centres, 0 for any other and for no block at all.
 pub fn origin(block: &[u8]) -> u32 {
+    origin_of(USGS, block)
+}
+
+/// The same for a family: 1 to 15 on Canadian sheets, 0 where nobody knows the family.
+pub fn origin_of(family: i64, block: &[u8]) -> u32 {
     if block.len() != BLOCK_LENGTH {
         return 0;
     }
-    let code = stretch(block, 141, 144);
-    let place = ORIGINS.iter().position(|known| code == *known);
-    place.map_or(0, |place| place as u32 + 1)
+    rules_of(family).map_or(0, |rules| rules.origin(stretch(block, 141, 144)))
+}
+
+/// Columns and rows of a record A of this family; zeros where it is refused.
+pub fn size_of(family: i64, block: &[u8]) -> [i64; 2] {
+    let size = |header: Header| [header.columns().count(), header.rows().count()];
+    check_of(family, block).map_or([0, 0], size)
 }
 
 /// How much of bytes 1 to 40 is the sheet's name; nothing is asked of its bytes (READINGS 35).

@@ -2,6 +2,7 @@
 //! damage to their blocks.
 
 pub mod aimed;
+pub mod canadian;
 pub mod damage;
 pub mod hand;
 pub mod head;

@@ -10,7 +10,8 @@ use common::{
 use second::block::{HUNDREDTH, UNIT};
 use second::crafted::{self, sessions};
 use second::dice::Dice;
-use second::kept::clauses::{broken, is_real, CLAUSES, NEGATIVE, TOO_FEW};
+use second::family::{CANADIAN, USGS};
+use second::kept::clauses::{broken, clauses_of, is_real, NEGATIVE, TOO_FEW};
 use second::kept::{blocks_of, deliver, sound, Kept, Told, DONE, HELD, NUMBERS};
 use second::presses;
 use std::collections::BTreeSet;
@@ -41,7 +42,7 @@ fn numbers_of_the_papers_sheet() {
         assert_eq!(numbers[..20], header);
         assert_eq!(numbers[20..26], *counts);
         assert_eq!(numbers[26..37], [0; 11]);
-        assert_eq!(numbers[37..], [*sum]);
+        assert_eq!(numbers[37..], [*sum, 0]);
     }
     assert_eq!(after(3).1, [&PAPER_CELLS[..], &[7, 7]].concat());
 }
@@ -93,7 +94,7 @@ fn unsound_comes_after_the_length_and_before_all_else() {
     let unsound = with(&after(1).0, &[("taken", 3)]);
     let block = &paper_blocks()[1];
     for number in [0, 1, 2, 3, u32::MAX] {
-        for numbers in [&unsound[..], &unsound[..37], &[]] {
+        for numbers in [&unsound[..], &unsound[..38], &[]] {
             let mut numbers = numbers.to_vec();
             let before = numbers.clone();
             let answer = deliver(&mut numbers, number, block, &mut []);
@@ -220,7 +221,7 @@ fn both_sides_of_the_clauses_on_counts() {
         assert_eq!(broken(&with(numbers, &[(name, good)])), [""; 0], "{name}");
         assert!(!broken(&with(numbers, &[(name, bad)])).is_empty(), "{name}");
     }
-    assert_eq!(broken(&open[..37]), [TOO_FEW]);
+    assert_eq!(broken(&open[..38]), [TOO_FEW]);
     for name in ["column", "open row", "open filled", "finished"] {
         assert_eq!(broken(&with(&after(1).0, &[(name, -1)])), [NEGATIVE]);
     }
@@ -303,7 +304,7 @@ fn a_delivery_leaves_a_sound_session_sound() {
             }
         });
     }
-    let all = (0..=12).chain([HELD]).collect();
+    let all = (0..=12).chain([15, HELD]).collect();
     demand_all_seen(all, &seen);
 }
 
@@ -321,6 +322,8 @@ fn steps_lead_to_what_the_blocks_mean() {
 
 #[test]
 fn every_clause_has_a_name_of_its_own() {
-    let names: BTreeSet<&str> = CLAUSES.iter().map(|&(name, _)| name).collect();
-    assert_eq!(names.len(), CLAUSES.len());
+    for family in [USGS, CANADIAN] {
+        let names: BTreeSet<&str> = clauses_of(family).map(|&(name, _)| name).collect();
+        assert_eq!(names.len(), clauses_of(family).count());
+    }
 }

@@ -1,6 +1,6 @@
 -- The verdict on a template and grid, by the test that decided it.
 use mathlib.Core.Bool.{true, false}
-use mathlib.Core.Path.{_≡_, _∙_, ap}
+use mathlib.Core.Path.{_≡_, refl, _∙_, ap}
 use Prim.Native.Nat.{ℕ, _*_, _≤_, _<_}
 use native.Mathlib.Nat.{mul-le-mul}
 use native.Mathlib.Omega.{arith}
@@ -65,4 +65,4 @@ module _ (template : List ℕ) (grid : List ℤ) where
     unfolding sheetObjection
     template-sheet h e =
         rw (eq-eqb (length template) 1024 l, e)
-        (ap (λ (g : Header). judgedBy g (gridObjection h grid)) (sheet-header template e))
+        (ap (λ (g : Header). judgedBy g (gridObjection h grid)) (sheet-header 0 refl template e))

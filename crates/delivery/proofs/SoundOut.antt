@@ -8,27 +8,29 @@ use lib.IntN.{ℤ, natAbs, _+ℤ_}
 use lib.ListN.{length, getD}
 use borrow.Author.Tests.{ne-eqb, eqb-true, eqb-false, ltb-true, ltb-false, eq-eqb}
 use lib.Dec.{eqb, ltb}
+use Rattle.laws.specs.Family.{known}
 use Rattle.laws.proofs.Integers.{size-sum}
 use Rattle.laws.proofs.Tests.{clash, by-test}
+use Rattle.field.specs.Field.{inRange, postsLimits}
 use Rattle.frame.specs.declared.Header.{Header}
 use Rattle.frame.specs.Frame.{columnsOf, rowsOf, zOf}
 use Rattle.heading.specs.Heading.{isRealNumber}
-use Rattle.heading.proofs.HeadingFacts.{header-facts}
-use Rattle.sheet.specs.RecordA.{recordA}
+use Rattle.heading.proofs.HeadingFacts.{family-facts}
+use Rattle.sheet.specs.RecordA.{recordOf}
 use Rattle.sheet.specs.declared.Checked.the-variants.{Sheet, Refused as NoSheet}
 use Rattle.sheet.specs.declared.Checked.{Checked}
-use Rattle.sheet.proofs.SheetObeys.{sheet-obeys, real-number}
+use Rattle.sheet.proofs.SheetObeys.{family-sheet-obeys, real-number}
 use Rattle.profile.specs.RecordB.{recordB}
 use Rattle.profile.specs.declared.record_b.Head.{Head}
 use Rattle.profile.specs.declared.record_b.Headed.the-variants.{Profile as Headed·Profile, Refused as NoProfile}
 use Rattle.profile.specs.RecordC.{recordC}
 use Rattle.profile.specs.declared.record_b.Headed.{Headed}
-use Rattle.profile.proofs.RecordLaws.{head-bounds, head-reals}
+use Rattle.profile.proofs.RecordLaws.{head-bounds, head-reals, head-posts}
 use Rattle.session.specs.Session.{sound, begun, busy, openRead, openBlocks, complete}
 use Rattle.session.specs.declared.Session.{Session}
 use Rattle.session.specs.declared.Profile.{Profile}
 use Rattle.session.proofs.Facts.{facts-begun, Begun, Running, begun-facts}
-use Rattle.session.proofs.Sound.{begun-sound, sound-begun as session-begun, taken-bound, posts-bound}
+use Rattle.session.proofs.Sound.{begun-sound, sound-begun as session-begun, sound-known, taken-bound, posts-bound}
 use Rattle.ground.specs.Posts.{void, tallyAll, postsFault, postsRestFault, postsOf}
 use Rattle.ground.specs.Extremes.{filledOnly, sumOf}
 use Rattle.ground.specs.declared.Tally.{Tally}
@@ -42,12 +44,13 @@ use Rattle.delivery.proofs.Placed.{row-room, column-room}
 
 -- ---- block 0: what is read keeps the fields' rules
 
-pub sound-begun : (block : List ℕ) (h : Header) → recordA block ≡ Sheet h → sound (begun h) ≡ true
-sound-begun block h e =
-    begun-sound (begun h)
-    (facts-begun (begun h)
+pub sound-begun : (family : ℕ) → known family ≡ true → (block : List ℕ) (h : Header) → recordOf family block ≡ Sheet h
+    → sound (begun family h) ≡ true
+sound-begun family k block h e =
+    begun-sound (begun family h) k
+    (facts-begun (begun family h)
     (record {
-      header = sheet-obeys block h e;
+      header = family-sheet-obeys family k block h e;
       closed = omega arith;
       below = λ b. clash (sym b);
       profile = λ b. clash (sym b);
@@ -68,10 +71,10 @@ sound-begun block h e =
 
 -- ---- record C
 
-pub sound-finished : (s : Session) → Begun s → busy s ≡ false → s .closed ≡ s .header .profiles → s .header .accuracy ≡ 1
+pub sound-finished : (s : Session) → known (s .family) ≡ true → Begun s → busy s ≡ false → s .closed ≡ s .header .profiles → s .header .accuracy ≡ 1
     → s .finished ≡ 0 → sound (finishedSession s) ≡ true
-sound-finished s f idle all one none =
-    begun-sound (finishedSession s)
+sound-finished s k f idle all one none =
+    begun-sound (finishedSession s) k
     (facts-begun (finishedSession s)
     (record {
       header = f .header;
@@ -103,10 +106,12 @@ in-order r = record { ordered = r .ordered; low-most = r .lowest; high-most = r 
 
 -- what is known of a good block of profile p, with heights hs: p is the open profile, or one that opens
 pub record Grows (s : Session) (column : ℕ) (p : Profile) (hs : List ℤ) : Type 0 where
+  pub family-known : known (s .family) ≡ true
   pub facts : Begun s
   pub below : s .closed < s .header .profiles
   pub column-room : column + s .header .profiles ≤ columnsOf (s .header)
   pub some : 1 ≤ p .posts
+  pub range : inRange (postsLimits (s .family)) (p .posts) ≡ true
   pub posts-most : p .posts ≤ 2048
   pub row-room : p .row + p .posts ≤ rowsOf (s .header)
   pub datum : natAbs (p .datum) ≤ 1000000
@@ -148,7 +153,7 @@ module _ (s : Session) (column : ℕ) (p : Profile) (hs : List ℤ) (g : Grows s
       let f = g .facts in
       let read : openRead after ≡ p .read + length hs = rw opens in
       let blocks : openBlocks after ≡ (p .read + length hs - 146) / 170 + 1 = rw opens in
-      begun-sound after
+      begun-sound after (g .family-known)
       (facts-begun after
       (record {
         header = f .header;
@@ -157,6 +162,7 @@ module _ (s : Session) (column : ℕ) (p : Profile) (hs : List ℤ) (g : Grows s
         profile =
             λ b.
             record {
+              range = g .range;
               posts = g .posts-most;
               room = g .row-room;
               datum = g .datum;
@@ -185,7 +191,7 @@ module _ (s : Session) (column : ℕ) (p : Profile) (hs : List ℤ) (g : Grows s
   sound-closed last =
       let after = closedSession (filledSession s column p hs) in
       let f = g .facts in
-      begun-sound after
+      begun-sound after (g .family-known)
       (facts-begun after
       (record {
         header = f .header;
@@ -221,19 +227,19 @@ module _ (s : Session) (f : Begun s) (p : Profile) (byte n : ℕ) (block : List 
   fair-with : (t : Tally) → Fair t → Fair (tallyAll t (heightsHere s p byte n block))
   fair-with t =
       scan-fair n byte block (zOf (s .header)) (p .datum) t (posts-fine byte n block z)
-      (header-facts (s .header) (f .header) .zstep .greatest)
+      (family-facts (s .family) (s .header) (f .header) .zstep .greatest)
       datum
 
   cells-with : (i : ℕ) → i < length (heightsHere s p byte n block) → Cell (getD (heightsHere s p byte n block) i void)
   cells-with =
-      heights-cells (zOf (s .header)) (p .datum) (postsOf n byte block) (header-facts (s .header) (f .header) .zstep .greatest) datum
+      heights-cells (zOf (s .header)) (p .datum) (postsOf n byte block) (family-facts (s .family) (s .header) (f .header) .zstep .greatest) datum
       (λ i k. posts-in-range n byte block (posts-fine byte n block z) i (omega (arith, posts-length n byte block, k)))
 
 -- the next block of the open profile
-pub further-grows : (s : Session) (block : List ℕ) → Begun s → busy s ≡ true
+pub further-grows : (s : Session) (block : List ℕ) → known (s .family) ≡ true → Begun s → busy s ≡ true
     → postsRestFault 1 (postsHere (s .profile) 170) block .kind ≡ 0
     → Grows s (s .column) (s .profile) (heightsHere s (s .profile) 1 (postsHere (s .profile) 170) block)
-further-grows s block f b z =
+further-grows s block k f b z =
     let p = s .profile in
     let n = postsHere p 170 in
     let hs = heightsHere s p 1 n block in
@@ -246,10 +252,12 @@ further-grows s block f b z =
     let from : 146 ≤ p .read = q .first in
     let step : (p .read - 146) % 170 ≡ 0 = q .step in
     record {
+      family-known = k;
       facts = f;
       below = f .below b;
       column-room = f .column-open b;
       some = omega (arith, more);
+      range = q .range;
       posts-most = most;
       row-room = q .room;
       datum = q .datum;
@@ -269,7 +277,7 @@ further-grows s block f b z =
 
 -- the first block of a profile
 pub opening-grows : (s : Session) (block : List ℕ) (h : Head) → sound s ≡ true → 1 ≤ s .taken → busy s ≡ false
-    → s .closed < s .header .profiles → recordB (s .closed + 1) block ≡ Headed·Profile h
+    → s .closed < s .header .profiles → recordB (s .family) (s .closed + 1) block ≡ Headed·Profile h
     → postsRestFault 145 (min (h .posts) 146) block .kind ≡ 0 → columnFits s (columnPlace s h) ≡ true
     → rowFits s (h .posts) (rowPlace s h) ≡ true
     → Grows s (firstColumn s h) (opened s h) (heightsHere s (opened s h) 145 (min (h .posts) 146) block)
@@ -278,8 +286,8 @@ opening-grows s block h t due idle below e z c r =
     let p = opened s h in
     let n = min (h .posts) 146 in
     let hs = heightsHere s p 145 n block in
-    let bounds = head-bounds (s .closed + 1) block h e in
-    let reals = head-reals (s .closed + 1) block h e in
+    let bounds = head-bounds (s .family) (s .closed + 1) block h e in
+    let reals = head-reals (s .family) (s .closed + 1) block h e in
     let some : 1 ≤ h .posts = bounds .0 in
     let most : h .posts ≤ 2048 = bounds .1 in
     let datum : natAbs (h .datum) ≤ 1000000 = bounds .2 in
@@ -287,10 +295,12 @@ opening-grows s block h t due idle below e z c r =
     let read : openRead s ≡ 0 = rw idle in
     let blocks : openBlocks s ≡ 0 = rw idle in
     record {
+      family-known = sound-known s t;
       facts = f;
       below = below;
       column-room = column-room s (columnPlace s h) (f .column-closed) c;
       some = some;
+      range = head-posts (s .family) (s .closed + 1) block h e;
       posts-most = most;
       row-room = row-room s (h .posts) (rowPlace s h) r;
       datum = datum;
@@ -330,18 +340,18 @@ record Fine (s : Session) (v : Verdict) : Type 0 where
   cells : Cells v
   idle : Idle s → Idle (answerOf s v .session)
 
-idle-begun : (h : Header) → Idle (begun h)
-idle-begun h = record { column = omega arith; row = omega arith; read = omega arith; filled = omega arith }
+idle-begun : (family : ℕ) (h : Header) → Idle (begun family h)
+idle-begun family h = record { column = omega arith; row = omega arith; read = omega arith; filled = omega arith }
 
 module _ (s : Session) (column : ℕ) (p : Profile) (hs : List ℤ) (g : Grows s column p hs) where
   column-few : column < 2 ^ 63
-  column-few = omega (arith, g .column-room, header-facts (s .header) (g .facts .header) .columns .1)
+  column-few = omega (arith, g .column-room, family-facts (s .family) (s .header) (g .facts .header) .columns .1)
 
   idle-filled : Idle (filledSession s column p hs)
   idle-filled =
       record {
         column = column-few;
-        row = omega (arith, g .row-room, header-facts (s .header) (g .facts .header) .rows .1);
+        row = omega (arith, g .row-room, family-facts (s .family) (s .header) (g .facts .header) .rows .1);
         read = omega (arith, g .within, g .posts-most);
         filled = omega (arith, profile-few s column p hs g, g .within, g .posts-most);
       }
@@ -376,12 +386,12 @@ module _ (s : Session) (t : sound s ≡ true) where
       })
       (λ k. kept _ _ _))
 
-  beginning-fine : (room : Room) (block : List ℕ) → Fine s (beginning room (recordA block))
-  beginning-fine room block = go (recordA block) refl
+  beginning-fine : (room : Room) (block : List ℕ) → Fine s (beginning room (recordOf (s .family) block))
+  beginning-fine room block = go (recordOf (s .family) block) refl
     where
-      go : (c : Checked) → recordA block ≡ c → Fine s (beginning room c)
+      go : (c : Checked) → recordOf (s .family) block ≡ c → Fine s (beginning room c)
       go (NoSheet kind byte) e = kept kind 0 byte
-      go (Sheet h) e = pick (tooShort room h) (λ k. kept 12 0 0) (λ k. record { is = sound-begun block h e; cells = tt; idle = λ i. idle-begun h })
+      go (Sheet h) e = pick (tooShort room h) (λ k. kept 12 0 0) (λ k. record { is = sound-begun (s .family) (sound-known s t) block h e; cells = tt; idle = λ i. idle-begun (s .family) h })
 
   module _ (due : 1 ≤ s .taken) (number : ℕ) (block : List ℕ) where
     facts : Begun s
@@ -394,13 +404,13 @@ module _ (s : Session) (t : sound s ≡ true) where
         pick (eqb (postsRestFault 1 n block .kind) 0)
         (λ z.
         filling-fine number (s .column) p (heightsHere s p 1 n block)
-        (further-grows s block facts b (eqb-true (postsRestFault 1 n block .kind) 0 z)))
+        (further-grows s block (sound-known s t) facts b (eqb-true (postsRestFault 1 n block .kind) 0 z)))
         (λ z. kept _ _ _)
 
-    opening-fine : busy s ≡ false → s .closed < s .header .profiles → Fine s (opening s number block (recordB (s .closed + 1) block))
-    opening-fine idle below = go (recordB (s .closed + 1) block) refl
+    opening-fine : busy s ≡ false → s .closed < s .header .profiles → Fine s (opening s number block (recordB (s .family) (s .closed + 1) block))
+    opening-fine idle below = go (recordB (s .family) (s .closed + 1) block) refl
       where
-        go : (r : Headed) → recordB (s .closed + 1) block ≡ r → Fine s (opening s number block r)
+        go : (r : Headed) → recordB (s .family) (s .closed + 1) block ≡ r → Fine s (opening s number block r)
         go (NoProfile kind byte) e = kept kind number byte
         go (Headed·Profile h) e =
             let n = min (h .posts) 146 in
@@ -446,7 +456,7 @@ module _ (s : Session) (t : sound s ≡ true) where
         pick (eqb (recordC block .kind) 0)
         (λ z.
         record {
-          is = sound-finished s facts idle all (u .0) (u .1);
+          is = sound-finished s (sound-known s t) facts idle all (u .0) (u .1);
           cells = λ i k. absurd (omega (arith, k));
           idle = λ i. record { column = i .column; row = i .row; read = i .read; filled = i .filled };
         })

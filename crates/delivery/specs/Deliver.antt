@@ -1,4 +1,4 @@
--- Document 01, "What a delivery answers": what one delivery answers, for every session, number, block and grid.
+-- Document 01, "What a delivery answers": what one delivery answers, for every session, of either family, number, block and grid.
 use mathlib.Core.List.{List, [], _∷_, _++_}
 use Prim.Native.Nat.{ℕ, _^_, _+_, _-_, min, _*_}
 use lib.IntN.{ℤ, pos, _+ℤ_, _*ℤ_}
@@ -15,7 +15,7 @@ use Rattle.frame.specs.declared.Header.{Header}
 use Rattle.frame.specs.Frame.{rowsOf, zOf, columnsOf, west, east, south, north, cellsOf}
 use Rattle.sheet.specs.declared.Checked.{Checked}
 use Rattle.sheet.specs.declared.Checked.the-variants.{Sheet, Refused as NoSheet}
-use Rattle.sheet.specs.RecordA.{recordA}
+use Rattle.sheet.specs.RecordA.{recordOf}
 use Rattle.profile.specs.declared.record_b.Head.{Head}
 use Rattle.profile.specs.declared.record_b.Headed.{Headed}
 use Rattle.profile.specs.declared.record_b.Headed.the-variants.{Profile as Headed·Profile, Refused as NoProfile}
@@ -111,6 +111,7 @@ closedSession s =
       finished = s .finished;
       profile = noProfile;
       sum = s .sum;
+      family = s .family;
     }
 
 -- ---- a block's posts
@@ -149,6 +150,7 @@ filledSession s column p hs =
       finished = s .finished;
       profile = readOn p hs;
       sum = s .sum +ℤ sumOf (filledOnly hs);
+      family = s .family;
     }
 
 -- the cell of a profile's next post: "Cell = column × rows + row"
@@ -249,6 +251,7 @@ finishedSession s =
       finished = 1;
       profile = s .profile;
       sum = s .sum;
+      family = s .family;
     }
 
 -- ---- the order of a delivery's answers
@@ -256,7 +259,7 @@ finishedSession s =
 abbrev pub later : Session → ℕ → List ℕ → Verdict
 later s number block =
     cond (busy s) (further s number block)
-    (cond (ltb (s .closed) (s .header .profiles)) (opening s number block (recordB (s .closed + 1) block))
+    (cond (ltb (s .closed) (s .header .profiles)) (opening s number block (recordB (s .family) (s .closed + 1) block))
     (unless (recordC block) number (fills (finishedSession s) 0 [])))
 
 -- for block 0 kind 12 comes last
@@ -270,7 +273,7 @@ verdictOf s number block room =
     (cond (not (sound s)) (wrong 2 number 0)
     (cond (ltb number (s .taken)) again
     (cond (ltb (s .taken) number) (wrong 3 number 0)
-    (cond (eqb number 0) (beginning room (recordA block))
+    (cond (eqb number 0) (beginning room (recordOf (s .family) block))
     (cond (complete s) (wrong 4 number 0)
     (cond (tooShort room (s .header)) (wrong 12 number 0) (later s number block)))))))
 
@@ -280,7 +283,7 @@ verdictOf s number block room =
 abbrev pub answerOf : Session → Verdict → Delivered
 answerOf s again = record { answer = Held; session = s }
 answerOf s (wrong kind block byte) = record { answer = Refused kind block byte; session = s }
-answerOf s (begins h) = record { answer = Taken; session = begun h }
+answerOf s (begins h) = record { answer = Taken; session = begun (s .family) h }
 answerOf s (fills after at hs) = record { answer = Taken; session = after }
 
 -- the numbers of each case: 0 taken, 255 held, else document 01's kind; beside it block and byte, which are 0 where nothing is refused

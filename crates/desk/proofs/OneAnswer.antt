@@ -4,6 +4,11 @@ use Rattle.laws.proofs.Answers.{one-answer, OneLeft, OneResult}
 use Rattle.desk.proofs.dem_block_count.Reads as dem-block-count·told
 use Rattle.desk.proofs.dem_columns.Reads as dem-columns·told
 use Rattle.desk.proofs.dem_deliver.Reads as dem-deliver·told
+use Rattle.desk.proofs.dem_family_record_a_kind.Reads as dem-family-record-a-kind·told
+use Rattle.desk.proofs.dem_family_record_a_byte.Reads as dem-family-record-a-byte·told
+use Rattle.desk.proofs.dem_family_origin.Reads as dem-family-origin·told
+use Rattle.desk.proofs.dem_family_columns.Reads as dem-family-columns·told
+use Rattle.desk.proofs.dem_family_rows.Reads as dem-family-rows·told
 use Rattle.desk.proofs.dem_integer_kind.Reads as dem-integer-kind·told
 use Rattle.desk.proofs.dem_integer_value.Reads as dem-integer-value·told
 use Rattle.desk.proofs.dem_is_complete.Reads as dem-is-complete·told
@@ -32,11 +37,20 @@ dem-real-kind κs a z z′ e e′ p q = one-answer p q
 pub dem-real-value : OneResult dem-real-value·told.Learnt
 dem-real-value κs a z z′ e e′ p q = one-answer p q
 
+pub dem-family-record-a-kind : OneResult dem-family-record-a-kind·told.Learnt
+dem-family-record-a-kind κs a z z′ e e′ p q = one-answer p q
+
 pub dem-record-a-kind : OneResult dem-record-a-kind·told.Learnt
 dem-record-a-kind κs a z z′ e e′ p q = one-answer p q
 
+pub dem-family-record-a-byte : OneResult dem-family-record-a-byte·told.Learnt
+dem-family-record-a-byte κs a z z′ e e′ p q = one-answer p q
+
 pub dem-record-a-byte : OneResult dem-record-a-byte·told.Learnt
 dem-record-a-byte κs a z z′ e e′ p q = one-answer p q
+
+pub dem-family-origin : OneResult dem-family-origin·told.Learnt
+dem-family-origin κs a z z′ e e′ p q = one-answer p q
 
 pub dem-origin : OneResult dem-origin·told.Learnt
 dem-origin κs a z z′ e e′ p q = one-answer p q
@@ -47,7 +61,7 @@ dem-name-length κs a z z′ e e′ p q = one-answer p q
 pub dem-open : OneResult dem-open·told.Learnt
 dem-open κs a z z′ e e′ p q = one-answer (p .0) (q .0)
 
-pub dem-open-session : OneLeft dem-open·told.Learnt (λ κs e. now (e .0))
+pub dem-open-session : OneLeft dem-open·told.Learnt (λ κs e. now (e .1 .0))
 dem-open-session κs a z z′ e e′ p q = one-answer (p .1) (q .1)
 
 pub dem-deliver : OneResult dem-deliver·told.Learnt
@@ -68,8 +82,14 @@ dem-is-sound κs a z z′ e e′ p q = one-answer p q
 pub dem-is-complete : OneResult dem-is-complete·told.Learnt
 dem-is-complete κs a z z′ e e′ p q = one-answer p q
 
+pub dem-family-columns : OneResult dem-family-columns·told.Learnt
+dem-family-columns κs a z z′ e e′ p q = one-answer p q
+
 pub dem-columns : OneResult dem-columns·told.Learnt
 dem-columns κs a z z′ e e′ p q = one-answer p q
+
+pub dem-family-rows : OneResult dem-family-rows·told.Learnt
+dem-family-rows κs a z z′ e e′ p q = one-answer p q
 
 pub dem-rows : OneResult dem-rows·told.Learnt
 dem-rows κs a z z′ e e′ p q = one-answer p q

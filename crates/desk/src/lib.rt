@@ -2,10 +2,10 @@
 ghost use mathlib.Core.Path.{_≡_};
 ghost use Rattle.number.specs.Integer.{integer};
 ghost use Rattle.number.specs.Real.{real};
-ghost use Rattle.label.specs.Label.{originOf, nameLength};
-ghost use Rattle.sheet.specs.RecordA.{recordA, checkedKind, checkedByte};
+ghost use Rattle.label.specs.Label.{originOf, familyOrigin, nameLength};
+ghost use Rattle.sheet.specs.RecordA.{recordA, recordOf, checkedKind, checkedByte};
 ghost use lib.ListN.{length};
-ghost use Rattle.session.specs.Session.{fresh};
+ghost use Rattle.session.specs.Session.{opened};
 ghost use Rattle.delivery.specs.Deliver.{answerKind, answerPlace};
 ghost use Rattle.lines.specs.Lines.{Given};
 ghost use Rattle.slip.specs.Slip.{handed};
@@ -51,26 +51,49 @@ pub extern "C" fn dem_real_value(field: &[u8]) -> i64
     r.value
 }
 
-// 0, or the number of the first rule of record A that the block breaks.
+// 0, or the number of the first rule of a family's record A that the block breaks; 2 for a family that there is none of.
 #[no_mangle]
-pub extern "C" fn dem_record_a_kind(block: &[u8]) -> u32
-    ensures { λ r. ⌜ r ≡ checkedKind (recordA (now (block .entry))) ⌝ }
+pub extern "C" fn dem_family_record_a_kind(family: u32, block: &[u8]) -> u32
+    ensures { λ r. ⌜ r ≡ checkedKind (recordOf family (now (block .entry))) ⌝ }
 {
-    match sheet::check_record_a(block) {
+    match sheet::check_family(family as u64, block) {
         Checked::Sheet(_) => 0,
         Checked::Refused(kind, _) => kind,
     }
 }
 
-// The byte where that rule stands, counted from 1; 0 where none is broken or the block has another length.
+// The byte where that rule stands, counted from 1; 0 where none is broken, and for kinds 1 and 2.
+#[no_mangle]
+pub extern "C" fn dem_family_record_a_byte(family: u32, block: &[u8]) -> u32
+    ensures { λ r. ⌜ r ≡ checkedByte (recordOf family (now (block .entry))) ⌝ }
+{
+    match sheet::check_family(family as u64, block) {
+        Checked::Sheet(_) => 0,
+        Checked::Refused(_, byte) => byte,
+    }
+}
+
+// The same of a USGS sheet.
+#[no_mangle]
+pub extern "C" fn dem_record_a_kind(block: &[u8]) -> u32
+    ensures { λ r. ⌜ r ≡ checkedKind (recordA (now (block .entry))) ⌝ }
+{
+    dem_family_record_a_kind(0, block)
+}
+
 #[no_mangle]
 pub extern "C" fn dem_record_a_byte(block: &[u8]) -> u32
     ensures { λ r. ⌜ r ≡ checkedByte (recordA (now (block .entry))) ⌝ }
 {
-    match sheet::check_record_a(block) {
-        Checked::Sheet(_) => 0,
-        Checked::Refused(_, byte) => byte,
-    }
+    dem_family_record_a_byte(0, block)
+}
+
+// Its number among the family's origins, or 0 for any other text, length or family.
+#[no_mangle]
+pub extern "C" fn dem_family_origin(family: u32, block: &[u8]) -> u32
+    ensures { λ r. ⌜ r ≡ familyOrigin family (now (block .entry)) ⌝ }
+{
+    label::family_origin(family as u64, block)
 }
 
 // 1 to 6, or 0 for any other text or length.
@@ -90,12 +113,12 @@ pub extern "C" fn dem_name_length(block: &[u8]) -> usize
     name.len()
 }
 
-// A fresh session: 0, or 12 and nothing changed where there are too few numbers.
+// A fresh session for sheets of a family, whatever its number: 0, or 12 and nothing changed where there are too few numbers.
 #[no_mangle]
-pub extern "C" fn dem_open(session: &mut [i64]) -> u32
-    ensures { λ r. ⌜ (r ≡ openKind (now (session .entry))) × (now (session .exit) ≡ openedWith fresh (now (session .entry))) ⌝ }
+pub extern "C" fn dem_open(family: u32, session: &mut [i64]) -> u32
+    ensures { λ r. ⌜ (r ≡ openKind (now (session .entry))) × (now (session .exit) ≡ openedWith (opened family) (now (session .entry))) ⌝ }
 {
-    ledger::open(session)
+    ledger::open(family, session)
 }
 
 // One delivery: 0 taken, 255 held, else document 01's kind; beside it block and byte. Only a taken block changes session and grid.
@@ -134,23 +157,37 @@ pub extern "C" fn dem_is_complete(session: &[i64]) -> u32
 
 // The columns and rows of a record A's sheet, so that a caller knows how large a grid to lend; 0 where it is refused.
 #[no_mangle]
-pub extern "C" fn dem_columns(block: &[u8]) -> u64
-    ensures { λ r. ⌜ r ≡ columnsChecked (recordA (now (block .entry))) ⌝ }
+pub extern "C" fn dem_family_columns(family: u32, block: &[u8]) -> u64
+    ensures { λ r. ⌜ r ≡ columnsChecked (recordOf family (now (block .entry))) ⌝ }
 {
-    match sheet::check_record_a(block) {
+    match sheet::check_family(family as u64, block) {
         Checked::Sheet(h) => frame::columns(h),
         Checked::Refused(_, _) => 0,
     }
 }
 
 #[no_mangle]
-pub extern "C" fn dem_rows(block: &[u8]) -> u64
-    ensures { λ r. ⌜ r ≡ rowsChecked (recordA (now (block .entry))) ⌝ }
+pub extern "C" fn dem_family_rows(family: u32, block: &[u8]) -> u64
+    ensures { λ r. ⌜ r ≡ rowsChecked (recordOf family (now (block .entry))) ⌝ }
 {
-    match sheet::check_record_a(block) {
+    match sheet::check_family(family as u64, block) {
         Checked::Sheet(h) => frame::rows(h),
         Checked::Refused(_, _) => 0,
     }
+}
+
+#[no_mangle]
+pub extern "C" fn dem_columns(block: &[u8]) -> u64
+    ensures { λ r. ⌜ r ≡ columnsChecked (recordA (now (block .entry))) ⌝ }
+{
+    dem_family_columns(0, block)
+}
+
+#[no_mangle]
+pub extern "C" fn dem_rows(block: &[u8]) -> u64
+    ensures { λ r. ⌜ r ≡ rowsChecked (recordA (now (block .entry))) ⌝ }
+{
+    dem_family_rows(0, block)
 }
 
 // How many blocks a template and grid have; 0 where they are refused.

@@ -1,6 +1,7 @@
 -- No second answer: for each public function its contract, as it stands, leaves one result and one state of what was lent.
 use denote.Ref.{now}
 use Rattle.laws.proofs.Answers.{one-answer, OneResult, OneSeen}
+use Rattle.field.proofs.all_text.Reads as all-text·told
 use Rattle.field.proofs.all_words.Reads as all-words·told
 use Rattle.field.proofs.blank_from.Reads as blank-from·told
 use Rattle.field.proofs.fault_of.Reads as fault-of·told
@@ -11,6 +12,7 @@ use Rattle.field.proofs.judge.Reads as judge·told
 use Rattle.field.proofs.judge_at.Reads as judge-at·told
 use Rattle.field.proofs.limits_of.Reads as limits-of·told
 use Rattle.field.proofs.no_fault.Reads as no-fault·told
+use Rattle.field.proofs.posts_limits.Reads as posts-limits·told
 use Rattle.field.proofs.read_ranged.Reads as read-ranged·told
 use Rattle.field.proofs.real_at.Reads as real-at·told
 use Rattle.field.proofs.stretch_of.Reads as stretch-of·told
@@ -57,3 +59,9 @@ judge κs a z z′ e e′ p q = one-answer p q
 
 pub judge-at : OneResult judge-at·told.Learnt
 judge-at κs a z z′ e e′ p q = one-answer p q
+
+pub all-text : OneResult all-text·told.Learnt
+all-text κs a z z′ e e′ p q = one-answer p q
+
+pub posts-limits : OneResult posts-limits·told.Learnt
+posts-limits κs a z z′ e e′ p q = one-answer p q

@@ -6,6 +6,7 @@ use mathlib.Core.List.{List, [], _∷_}
 use lib.ListN.{take, drop}
 use lib.IntN.{ℤ, pos, negsuc}
 use Rattle.laws.specs.Sign.{_and_, notNegative}
+use Rattle.laws.specs.Family.{isCanadian}
 use Rattle.laws.specs.Texts.{every}
 use Rattle.number.specs.Integer.{integer, refused}
 use Rattle.number.specs.Real.{real}
@@ -17,6 +18,10 @@ use Rattle.field.specs.declared.Fault.{Fault}
 -- "bytes 32-126, no lower case"
 abbrev pub isWord : ℕ → Bool
 isWord c = leb 32 c and leb c 126 and not (leb 97 c and leb c 122)
+
+-- 02, request 2: text that "may have lower case"
+abbrev pub isText : ℕ → Bool
+isText c = leb 32 c and leb c 126
 
 -- the bytes from `first`, counted from 1
 abbrev pub stretch : ℕ → ℕ → List ℕ → List ℕ
@@ -30,6 +35,10 @@ realAt first block = real (stretch first 24 block) .value
 
 abbrev pub limits : ℕ → ℕ → ℕ → ℕ → Limits
 limits least greatest step kind = record { least = least; greatest = greatest; step = step; kind = kind }
+
+-- the posts m of a profile: 1 to 2,048; 02, request 2: 1,201 and no other in a Canadian sheet
+abbrev pub postsLimits : ℕ → Limits
+postsLimits family = cond (isCanadian family) (limits 1201 1201 1 7) (limits 1 2048 1 7)
 
 abbrev pub inRange : Limits → ℕ → Bool
 inRange l v = leb (l .least) v and leb v (l .greatest) and eqb (v % l .step) 0

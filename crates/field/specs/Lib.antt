@@ -1,2 +1,3 @@
 pub mod Field
 pub mod Rules
+pub mod Steps

@@ -12,7 +12,7 @@ use Rattle.number.specs.Integer.{integer}
 use Rattle.number.specs.Real.{real}
 use Rattle.number.specs.Bytes.{isBlank}
 use Rattle.field.specs.declared.Limits.{Limits}
-use Rattle.field.specs.Field.{inLimits, stretch, isWord}
+use Rattle.field.specs.Field.{inLimits, stretch, isWord, isText}
 
 -- a rule: the byte and the kind of its refusal, and whether a block keeps it
 pub record Clause : Type 0 where
@@ -32,6 +32,13 @@ lengthRules = clause 0 1 (λ b. eqb (length b) 1024) ∷ []
 -- text: bytes 32 to 126 without lower case (5)
 abbrev pub textRules : ℕ → ℕ → List Clause
 textRules first width = clause first 5 (λ b. every isWord (stretch first width b)) ∷ []
+
+-- 02, request 2: text that may have lower case (5), and a stretch of blanks (5)
+abbrev pub mixedRules : ℕ → ℕ → List Clause
+mixedRules first width = clause first 5 (λ b. every isText (stretch first width b)) ∷ []
+
+abbrev pub fillerRules : ℕ → ℕ → List Clause
+fillerRules first width = clause first 5 (λ b. every isBlank (stretch first width b)) ∷ []
 
 -- from a byte to the block's end there are blanks (5)
 abbrev pub blankRules : ℕ → List Clause

@@ -6,7 +6,8 @@ ghost use Rattle.laws.specs.Texts.{every};
 ghost use Rattle.number.specs.Bytes.{isBlank};
 ghost use Rattle.number.specs.Integer.{integer};
 ghost use Rattle.number.specs.Real.{real};
-ghost use Rattle.field.specs.Field.{isWord, stretch, wholeAt, limits, inRange, inLimits, ranged, fault, faultOr};
+ghost use Rattle.field.specs.Field.{isWord, isText, stretch, wholeAt, limits, postsLimits, inRange, inLimits, ranged, fault, faultOr};
+ghost use Rattle.field.specs.Steps.{isByte};
 
 // A broken rule: its kind and byte. Kind 0: none is broken.
 pub struct Fault {
@@ -31,6 +32,16 @@ pub fn limits_of(least: u64, greatest: u64, step: u64, kind: u32) -> Limits
         step,
         kind,
     }
+}
+
+// The posts that a profile may have, by the family.
+pub fn posts_limits(family: u64) -> Limits
+    ensures { λ r. ⌜ r ≡ postsLimits family ⌝ }
+{
+    if family == 1 {
+        return limits_of(1201, 1201, 1, 7);
+    }
+    limits_of(1, 2048, 1, 7)
 }
 
 pub fn in_range(l: Limits, v: u64) -> bool
@@ -88,17 +99,48 @@ fn is_word(c: u8) -> bool
     122 < c
 }
 
-pub fn all_words(s: &[u8]) -> bool
-    ensures { λ r. ⌜ r ≡ every isWord (now (s .entry)) ⌝ }
+fn is_text(c: u8) -> bool
+    ensures { λ r. ⌜ r ≡ isText c ⌝ }
+{
+    if c < 32 {
+        return false;
+    }
+    c <= 126
+}
+
+fn is_byte(lower: bool, c: u8) -> bool
+    ensures { λ r. ⌜ r ≡ isByte lower c ⌝ }
+{
+    if lower {
+        return is_text(c);
+    }
+    is_word(c)
+}
+
+fn all_bytes(lower: bool, s: &[u8]) -> bool
+    ensures { λ r. ⌜ r ≡ every (isByte lower) (now (s .entry)) ⌝ }
 {
     let mut i = 0;
     while i < s.len() {
-        if !is_word(s[i]) {
+        if !is_byte(lower, s[i]) {
             return false;
         }
         i += 1;
     }
     true
+}
+
+pub fn all_words(s: &[u8]) -> bool
+    ensures { λ r. ⌜ r ≡ every isWord (now (s .entry)) ⌝ }
+{
+    all_bytes(false, s)
+}
+
+// Text that may have lower case.
+pub fn all_text(s: &[u8]) -> bool
+    ensures { λ r. ⌜ r ≡ every isText (now (s .entry)) ⌝ }
+{
+    all_bytes(true, s)
 }
 
 // Whether all that remains of a block is blank.

@@ -4,6 +4,7 @@ use Rattle.frame.proofs.column_lattice.Reads as column-lattice·told
 use Rattle.frame.proofs.column_of.Reads as column-of·told
 use Rattle.frame.proofs.columns.Reads as columns·told
 use Rattle.frame.proofs.has_room.Reads as has-room·told
+use Rattle.frame.proofs.judge_family.Reads as judge-family·told
 use Rattle.frame.proofs.judge_whole.Reads as judge-whole·told
 use Rattle.frame.proofs.row_lattice.Reads as row-lattice·told
 use Rattle.frame.proofs.row_of.Reads as row-of·told
@@ -36,3 +37,6 @@ column-of κs a z z′ e e′ p q = one-answer p q
 
 pub row-of : OneResult row-of·told.Learnt
 row-of κs a z z′ e e′ p q = one-answer p q
+
+pub judge-family : OneResult judge-family·told.Learnt
+judge-family κs a z z′ e e′ p q = one-answer p q

@@ -1,9 +1,11 @@
 -- Document 01, "Record A": corners, lattices, columns and rows, and the rules over the whole record.
-use mathlib.Core.Bool.{Bool, cond}
+use mathlib.Core.Bool.{Bool, true, false, cond}
+use mathlib.Core.List.{List, [], _∷_}
 use lib.Signed.{ltZ}
 use lib.IntN.{ℤ}
 use Prim.Native.Nat.{ℕ, _*_, _/_, _^_}
-use lib.Dec.{leb}
+use lib.Dec.{leb, eqb}
+use Rattle.laws.specs.Family.{isCanadian}
 use Rattle.laws.specs.Sign.{_and_, lesser, greater}
 use Rattle.lattice.specs.Lattice.{latticeOf, placeOf}
 use Rattle.lattice.specs.declared.Place.{Place}
@@ -47,6 +49,34 @@ wholeFault h =
     (cond (leb (h .profiles) (columnsOf h)) (fault 0 0) (fault 10 859))
     (fault 10 817))
     (fault 10 547)
+
+-- 02, request 2: "latitude then longitude: 0.75 with 0.75, 1.5 or 3; 3 with 3, 6 or 12". x is the longitude, y the latitude, in billionths
+abbrev pub pairs : List (ℕ × ℕ)
+pairs =
+    (75 * 10 ^ 7, 75 * 10 ^ 7)
+    ∷ (150 * 10 ^ 7, 75 * 10 ^ 7)
+    ∷ (300 * 10 ^ 7, 75 * 10 ^ 7)
+    ∷ (300 * 10 ^ 7, 300 * 10 ^ 7)
+    ∷ (600 * 10 ^ 7, 300 * 10 ^ 7)
+    ∷ (1200 * 10 ^ 7, 300 * 10 ^ 7)
+    ∷ []
+
+abbrev pub listed : ℕ → ℕ → List (ℕ × ℕ) → Bool
+listed x y [] = false
+listed x y (p ∷ ps) = cond (eqb x (p .0) and eqb y (p .1)) true (listed x y ps)
+
+-- a Canadian sheet: "7 spacing pair not listed, at 817", then the corners, then "a lattice other than 1201 by 1201 is 10 at 817"
+abbrev pub canadianFault : Header → Fault
+canadianFault h =
+    cond (listed (h .xstep) (h .ystep) pairs)
+    (cond (cornersInOrder h)
+    (cond (eqb (columnsOf h) 1201 and eqb (rowsOf h) 1201) (fault 0 0) (fault 10 817))
+    (fault 10 547))
+    (fault 7 817)
+
+-- the rules over the whole record, of either family
+abbrev pub familyFault : ℕ → Header → Fault
+familyFault family h = cond (isCanadian family) (canadianFault h) (wholeFault h)
 
 abbrev pub cellsOf : Header → ℕ
 cellsOf h = columnsOf h * rowsOf h

@@ -7,7 +7,8 @@ ghost use lib.Dec.{leb};
 ghost use lib.Signed.{ltZ};
 ghost use Rattle.laws.specs.Sign.{lesser, greater};
 ghost use Rattle.lattice.specs.Lattice.{latticeOf};
-ghost use Rattle.frame.specs.Frame.{west, east, south, north, columnsOf, rowsOf, cornersInOrder, oneTo2048, wholeFault, cellsOf, zOf, columnPlaceOf, rowPlaceOf};
+ghost use Rattle.frame.specs.Frame.{west, east, south, north, columnsOf, rowsOf, cornersInOrder, oneTo2048, wholeFault, pairs, listed, canadianFault, familyFault, cellsOf, zOf, columnPlaceOf, rowPlaceOf};
+ghost use Rattle.frame.specs.Steps.{oneOf};
 
 // In billionths of the ground unit.
 pub struct Corner {
@@ -141,6 +142,59 @@ pub fn judge_whole(h: Header) -> Fault
         return field::fault_of(10, 859);
     }
     field::fault_of(0, 0)
+}
+
+fn one_of(x: u64, a: u64, b: u64, c: u64) -> bool
+    ensures { λ r. ⌜ r ≡ oneOf x a b c ⌝ }
+{
+    if x == a {
+        return true;
+    }
+    if x == b {
+        return true;
+    }
+    x == c
+}
+
+// The listed pairs of spacings: y is 0.75 or 3, and x goes by it.
+fn is_pair(x: u64, y: u64) -> bool
+    ensures { λ r. ⌜ r ≡ listed x y pairs ⌝ }
+{
+    if y == 750000000 {
+        return one_of(x, 750000000, 1500000000, 3000000000);
+    }
+    if y == 3000000000 {
+        return one_of(x, 3000000000, 6000000000, 12000000000);
+    }
+    false
+}
+
+// The pair before the lattice: a spacing may be zero here.
+fn judge_canadian(h: Header) -> Fault
+    ensures { λ r. ⌜ r ≡ canadianFault h ⌝ }
+{
+    if !is_pair(h.xstep, h.ystep) {
+        return field::fault_of(7, 817);
+    }
+    if !corners_in_order(h) {
+        return field::fault_of(10, 547);
+    }
+    let columns = column_lattice(h);
+    let rows = row_lattice(h);
+    if figures::both(columns.count == 1201, rows.count == 1201) {
+        return field::fault_of(0, 0);
+    }
+    field::fault_of(10, 817)
+}
+
+// The rules over the whole record, of either family.
+pub fn judge_family(family: u64, h: Header) -> Fault
+    ensures { λ r. ⌜ r ≡ familyFault family h ⌝ }
+{
+    if family == 1 {
+        return judge_canadian(h);
+    }
+    judge_whole(h)
 }
 
 // Whether so many cells are enough for the sheet. The product may not fit a u64, so the cells are divided.

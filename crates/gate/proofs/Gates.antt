@@ -9,7 +9,7 @@ use native.Mathlib.Omega.{arith}
 use borrow.Author.Tests.{eqb-true, eqb-false, ltb-false, lt-ltb, le-ltb, leb-true, leb-false}
 use Rattle.frame.specs.Frame.{cellsOf}
 use Rattle.frame.specs.declared.Header.{Header}
-use Rattle.sheet.specs.RecordA.{recordA}
+use Rattle.sheet.specs.RecordA.{recordOf}
 use Rattle.sheet.specs.declared.Checked.{Checked}
 use Rattle.sheet.specs.declared.Checked.the-variants.{Sheet, Refused as NoSheet}
 use Rattle.session.specs.declared.Session.{Session}
@@ -23,7 +23,7 @@ use Rattle.gate.specs.declared.verdict.Judged.{Judged}
 abbrev pub byGate : Session → ℕ → List ℕ → Room → Gate → Verdict
 byGate s number block m (Stop kind) = wrong kind number 0
 byGate s number block m Again = again
-byGate s number block m Begin = beginning m (recordA block)
+byGate s number block m Begin = beginning m (recordOf (s .family) block)
 byGate s number block m Later = later s number block
 
 -- room, or too little of it
@@ -52,7 +52,7 @@ by-answers : (s : Session) (number : ℕ) (block : List ℕ) (m : Room) (whole s
     (cond (not sound) (wrong 2 number 0)
     (cond held again
     (cond ahead (wrong 3 number 0)
-    (cond first (beginning m (recordA block))
+    (cond first (beginning m (recordOf (s .family) block))
     (cond complete (wrong 4 number 0) (cond (not roomy) (wrong 12 number 0) (later s number block)))))))
 by-answers s number block m false b c d e f g = refl
 by-answers s number block m true false c d e f g = refl

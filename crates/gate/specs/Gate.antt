@@ -39,5 +39,5 @@ taken after voids at heights = record { answer = Taken; session = after; voids =
 abbrev pub judgedOf : Session → Verdict → Judged
 judgedOf s again = unchanged Held s
 judgedOf s (wrong kind block byte) = unchanged (Refused kind block byte) s
-judgedOf s (begins h) = taken (begun h) (cellsOf h) 0 0
+judgedOf s (begins h) = taken (begun (s .family) h) (cellsOf h) 0 0
 judgedOf s (fills after at hs) = taken after 0 at (length hs)

@@ -8,7 +8,7 @@ use verdict::Gate;
 use verdict::Judged;
 ghost use mathlib.Core.Path.{_≡_};
 ghost use Prim.Native.Nat.{_^_, _<_};
-ghost use Rattle.sheet.specs.RecordA.{recordA};
+ghost use Rattle.sheet.specs.RecordA.{recordOf};
 ghost use Rattle.frame.specs.Frame.{cellsOf};
 ghost use Rattle.session.specs.Session.{begun};
 ghost use Rattle.delivery.specs.Deliver.{beginning};
@@ -44,24 +44,24 @@ pub fn gate(s: Session, number: u64, bytes: usize, cells: usize) -> Gate
 }
 
 // A good block 0: its header, and every cell of its sheet void.
-fn begin(h: Header) -> Judged
+fn begin(family: u64, h: Header) -> Judged
     requires { ⌜ cellsOf h < 2 ^ 64 ⌝ }
-    ensures { λ r. ⌜ r ≡ taken (begun h) (cellsOf h) 0 0 ⌝ }
+    ensures { λ r. ⌜ r ≡ taken (begun family h) (cellsOf h) 0 0 ⌝ }
 {
     let cells = frame::columns(h) * frame::rows(h);
-    verdict::taken(session::begun(h), cells, 0, 0)
+    verdict::taken(session::begun(family, h), cells, 0, 0)
 }
 
 // Block 0: its header, where the cells lent are enough.
 pub fn judge_first(s: Session, block: &[u8], cells: usize) -> Judged
-    ensures { λ r. ⌜ r ≡ judgedOf s (beginning (room cells) (recordA (now (block .entry)))) ⌝ }
+    ensures { λ r. ⌜ r ≡ judgedOf s (beginning (room cells) (recordOf (s .family) (now (block .entry)))) ⌝ }
 {
-    let checked = sheet::check_record_a(block);
+    let checked = sheet::check_family(s.family, block);
     match checked {
         Checked::Refused(kind, byte) => verdict::refused(s, kind, 0, byte),
         Checked::Sheet(h) => {
             if frame::has_room(h, cells as u64) {
-                return begin(h);
+                return begin(s.family, h);
             }
             verdict::refused(s, 12, 0, 0)
         }

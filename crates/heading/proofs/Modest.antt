@@ -10,7 +10,7 @@ use Rattle.field.specs.Field.{inRange, limits}
 use Rattle.field.specs.declared.Limits.{Limits}
 use Rattle.frame.specs.declared.Header.{Header}
 use Rattle.heading.specs.Heading.{headerObeys}
-use Rattle.heading.proofs.HeadingFacts.{header-facts}
+use Rattle.heading.proofs.HeadingFacts.{Framed, family-facts}
 
 most : (l : Limits) (v : ℕ) → inRange l v ≡ true → v ≤ l .greatest
 most l v t = leb-true v (l .greatest) (and-first (leb v (l .greatest)) _ (and-second (leb (l .least) v) _ t))
@@ -37,9 +37,8 @@ pub record Modest (h : Header) : Type 0 where
   pub ystep : h .ystep ≤ 9999 * 10 ^ 9
   pub zstep : h .zstep ≤ 10 ^ 9
 
-pub modest : (h : Header) → headerObeys h ≡ true → Modest h
-modest h good =
-    let f = header-facts h good in
+pub framed-modest : (h : Header) → Framed h → Modest h
+framed-modest h f =
     record {
       level = omega (arith, f .level .greatest);
       system = omega (arith, f .system);
@@ -50,3 +49,6 @@ modest h good =
       ystep = f .ystep .greatest;
       zstep = omega (arith, f .zstep .greatest, f .zstep .step);
     }
+
+pub modest : (h : Header) → headerObeys h ≡ true → Modest h
+modest h good = framed-modest h (family-facts 0 h good)

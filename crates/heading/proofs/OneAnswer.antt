@@ -1,5 +1,7 @@
 -- No second answer: for each public function its contract, as it stands, leaves one result and one state of what was lent.
 use Rattle.laws.proofs.Answers.{one-answer, OneResult}
+use Rattle.heading.proofs.family_limits.Reads as family-limits·told
+use Rattle.heading.proofs.family_obeys.Reads as family-obeys·told
 use Rattle.heading.proofs.header_obeys.Reads as header-obeys·told
 use Rattle.heading.proofs.is_real_number.Reads as is-real-number·told
 use Rattle.heading.proofs.named_limits.Reads as named-limits·told
@@ -16,3 +18,9 @@ header-obeys κs a z z′ e e′ p q = one-answer p q
 
 pub zero-header : OneResult zero-header·told.Learnt
 zero-header κs a z z′ e e′ p q = one-answer p q
+
+pub family-limits : OneResult family-limits·told.Learnt
+family-limits κs a z z′ e e′ p q = one-answer p q
+
+pub family-obeys : OneResult family-obeys·told.Learnt
+family-obeys κs a z z′ e e′ p q = one-answer p q

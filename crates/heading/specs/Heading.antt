@@ -1,16 +1,17 @@
 -- Document 01, "Record A": its limits by name, the header that a block says, and what a header must obey.
 use mathlib.Core.Bool.{Bool, cond}
 use mathlib.Core.List.{List, [], _∷_, map}
-use Prim.Native.Nat.{ℕ, _+_, _*_, _^_}
+use Prim.Native.Nat.{ℕ, _+_, _*_, _-_, _^_}
 use lib.Dec.{ltb, eqb}
 use lib.IntN.{ℤ, pos, natAbs}
 use lib.ListN.{getD}
 use Rattle.laws.specs.Digits.{short}
+use Rattle.laws.specs.Family.{isCanadian}
 use Rattle.laws.specs.Sign.{isZero, notNegative, _and_}
 use Rattle.number.specs.Real.{real}
 use Rattle.field.specs.Field.{stretch, wholeAt, realAt, limits, inRange}
 use Rattle.field.specs.declared.Limits.{Limits}
-use Rattle.frame.specs.Frame.{wholeFault}
+use Rattle.frame.specs.Frame.{wholeFault, canadianFault}
 use Rattle.frame.specs.declared.Corner.{Corner}
 use Rattle.frame.specs.declared.Header.{Header}
 
@@ -45,8 +46,10 @@ pub data Name : Type 0 where
   height : Name
   rank : Name
   profiles : Name
+  minutes : Name
+  seconds : Name
 
--- by the system and the vertical unit; x and y spacing whole, 1-9999
+-- by the system and the vertical unit; x and y spacing whole, 1-9999; minutes and seconds (02, request 2) 0 or more, below 60
 abbrev pub limitsOf : Name → ℕ → ℕ → Limits
 limitsOf level s v = limits 1 3 1 9
 limitsOf pattern s v = limits 1 1 1 9
@@ -61,14 +64,41 @@ limitsOf spacing s v = limits billion (9999 * billion) billion 7
 limitsOf height s v = heightLimits v
 limitsOf rank s v = limits 1 1 1 9
 limitsOf profiles s v = limits 1 2048 1 7
+limitsOf minutes s v = limits 0 59 1 7
+limitsOf seconds s v = limits 0 (60 * billion - 1) 1 7
+
+-- 02, request 2: a Canadian sheet has level 1, system 0, zone 0, metres, accuracy 0 (9) and 1,201 profiles (7); all else as in any
+abbrev pub canadianLimits : Name → ℕ → ℕ → Limits
+canadianLimits level s v = limits 1 1 1 9
+canadianLimits pattern s v = limitsOf pattern s v
+canadianLimits system s v = limits 0 0 1 9
+canadianLimits zone s v = limits 0 0 1 9
+canadianLimits ground s v = limitsOf ground s v
+canadianLimits vertical s v = limits 2 2 1 9
+canadianLimits sides s v = limitsOf sides s v
+canadianLimits angle s v = limitsOf angle s v
+canadianLimits accuracy s v = limits 0 0 1 9
+canadianLimits spacing s v = limitsOf spacing s v
+canadianLimits height s v = limitsOf height s v
+canadianLimits rank s v = limitsOf rank s v
+canadianLimits profiles s v = limits 1201 1201 1 7
+canadianLimits minutes s v = limitsOf minutes s v
+canadianLimits seconds s v = limitsOf seconds s v
+
+abbrev pub familyLimits : ℕ → Name → ℕ → ℕ → Limits
+familyLimits family name s v = cond (isCanadian family) (canadianLimits name s v) (limitsOf name s v)
 
 -- the code numbers the names from 0, in this order; what is past them has limits that nothing keeps but 0
 abbrev pub names : List Name
 names =
-    level ∷ pattern ∷ system ∷ zone ∷ ground ∷ vertical ∷ sides ∷ angle ∷ accuracy ∷ spacing ∷ height ∷ rank ∷ profiles ∷ []
+    level ∷ pattern ∷ system ∷ zone ∷ ground ∷ vertical ∷ sides ∷ angle ∷ accuracy ∷ spacing ∷ height ∷ rank ∷ profiles
+    ∷ minutes ∷ seconds ∷ []
 
 abbrev pub limitsAt : ℕ → ℕ → ℕ → Limits
 limitsAt n s v = getD (map (λ name. limitsOf name s v) names) n (limits 0 0 0 0)
+
+abbrev pub familyLimitsAt : ℕ → ℕ → ℕ → ℕ → Limits
+familyLimitsAt family n s v = getD (map (λ name. familyLimits family name s v) names) n (limits 0 0 0 0)
 
 -- ---- the header of a block
 
@@ -127,6 +157,21 @@ realsObey h =
 -- and the rules over the whole record
 abbrev pub headerObeys : Header → Bool
 headerObeys h = fieldsObey h and realsObey h and eqb (wholeFault h .kind) 0
+
+-- a Canadian header: its x and y spacing are held to the listed pairs by the rules over the whole record
+abbrev pub standsHere : Name → Header → ℕ → Bool
+standsHere name h v = inRange (canadianLimits name (h .system) (h .vertical)) v
+
+abbrev pub canadianFields : Header → Bool
+canadianFields h =
+    standsHere level h (h .level) and standsHere system h (h .system) and standsHere zone h (h .zone)
+    and standsHere ground h (h .ground) and standsHere vertical h (h .vertical) and standsHere accuracy h (h .accuracy)
+    and standsHere height h (h .zstep) and standsHere profiles h (h .profiles)
+
+-- a header of either family
+abbrev pub familyObeys : ℕ → Header → Bool
+familyObeys family h =
+    cond (isCanadian family) (canadianFields h and realsObey h and eqb (canadianFault h .kind) 0) (headerObeys h)
 
 -- ---- fresh: all fields zero
 

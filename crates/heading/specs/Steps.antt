@@ -2,13 +2,13 @@
 use mathlib.Core.Bool.{Bool}
 use mathlib.Core.List.{List, map}
 use Prim.Native.Nat.{ℕ}
-use lib.ListN.{set}
+use lib.ListN.{set, getD}
 use Rattle.laws.specs.Sign.{_and_}
 use Rattle.field.specs.Field.{inRange, limits}
 use Rattle.field.specs.declared.Limits.{Limits}
 use Rattle.frame.specs.declared.Header.{Header}
-use Rattle.heading.specs.Heading.{Name, limitsOf, names, limitsAt, stands}
-use Rattle.heading.specs.Heading.Name.{level, pattern, system, zone, ground, vertical, sides, angle, accuracy, spacing, height, rank, profiles}
+use Rattle.heading.specs.Heading.{Name, limitsOf, names, limitsAt, canadianLimits, stands, standsHere}
+use Rattle.heading.specs.Heading.Name.{level, pattern, system, zone, ground, vertical, sides, angle, accuracy, spacing, height, rank, profiles, minutes, seconds}
 
 abbrev pub spacingsObey : Header → Bool
 spacingsObey h =
@@ -39,3 +39,17 @@ numberOf spacing = 9
 numberOf height = 10
 numberOf rank = 11
 numberOf profiles = 12
+numberOf minutes = 13
+numberOf seconds = 14
+
+abbrev pub canadianAt : ℕ → ℕ → ℕ → Limits
+canadianAt n s v = getD (map (λ name. canadianLimits name s v) names) n noLimits
+
+abbrev pub standsHereAt : ℕ → Header → ℕ → Bool
+standsHereAt n h v = inRange (canadianAt n (h .system) (h .vertical)) v
+
+-- half of a Canadian header's fields
+abbrev pub countsHere : Header → Bool
+countsHere h =
+    standsHere vertical h (h .vertical) and standsHere accuracy h (h .accuracy) and standsHere height h (h .zstep)
+    and standsHere profiles h (h .profiles)

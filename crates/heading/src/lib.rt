@@ -9,8 +9,8 @@ use frame::Header;
 ghost use mathlib.Core.Path.{_≡_};
 ghost use Prim.Native.Nat.{_<_};
 ghost use lib.ListN.{getD};
-ghost use Rattle.heading.specs.Heading.{zoneLimits, groundLimits, heightLimits, limitsAt, isRealNumber, cornerReal, fieldsObey, realsObey, headerObeys, zeroCorner, zeroHeader};
-ghost use Rattle.heading.specs.Steps.{spacingsObey, fixedLimits, noLimits, standsAt};
+ghost use Rattle.heading.specs.Heading.{zoneLimits, groundLimits, heightLimits, limitsAt, familyLimitsAt, isRealNumber, cornerReal, fieldsObey, realsObey, headerObeys, canadianFields, familyObeys, zeroCorner, zeroHeader};
+ghost use Rattle.heading.specs.Steps.{spacingsObey, fixedLimits, noLimits, standsAt, canadianAt, standsHereAt, countsHere};
 
 // The names of record A's limits, in the order of the tables below.
 pub const LEVEL: usize = 0;
@@ -39,13 +39,33 @@ pub const RANK: usize = 11;
 
 pub const PROFILES: usize = 12;
 
-const LEAST: [u64; 13] = [1, 1, 0, 0, 0, 1, 4, 0, 0, 1000000000, 0, 1, 1];
+pub const MINUTES: usize = 13;
 
-const GREATEST: [u64; 13] = [3, 1, 2, 0, 0, 2, 4, 0, 1, 9999000000000, 0, 1, 2048];
+pub const SECONDS: usize = 14;
 
-const STEP: [u64; 13] = [1, 1, 1, 0, 0, 1, 1, 1, 1, 1000000000, 0, 1, 1];
+const LEAST: [u64; 15] = [1, 1, 0, 0, 0, 1, 4, 0, 0, 1000000000, 0, 1, 1, 0, 0];
 
-const KIND: [u32; 13] = [9, 9, 9, 0, 0, 9, 9, 9, 9, 7, 0, 9, 7];
+const GREATEST: [u64; 15] = [
+    3,
+    1,
+    2,
+    0,
+    0,
+    2,
+    4,
+    0,
+    1,
+    9999000000000,
+    0,
+    1,
+    2048,
+    59,
+    59999999999,
+];
+
+const STEP: [u64; 15] = [1, 1, 1, 0, 0, 1, 1, 1, 1, 1000000000, 0, 1, 1, 1, 1];
+
+const KIND: [u32; 15] = [9, 9, 9, 0, 0, 9, 9, 9, 9, 7, 0, 9, 7, 7, 7];
 
 fn zone_limits(system: u64) -> Limits
     ensures { λ r. ⌜ r ≡ zoneLimits system ⌝ }
@@ -82,7 +102,7 @@ fn height_limits(vertical: u64) -> Limits
 
 // Limits that go by no other field.
 fn fixed_limits(name: usize) -> Limits
-    requires { ⌜ name < 13 ⌝ }
+    requires { ⌜ name < 15 ⌝ }
     ensures { λ r. ⌜ r ≡ getD fixedLimits name noLimits ⌝ }
 {
     Limits {
@@ -106,10 +126,44 @@ pub fn named_limits(name: usize, system: u64, vertical: u64) -> Limits
     if name == HEIGHT {
         return height_limits(vertical);
     }
-    if PROFILES < name {
+    if SECONDS < name {
         return field::limits_of(0, 0, 0, 0);
     }
     fixed_limits(name)
+}
+
+// The limits of a name in a Canadian sheet: its own where request 2 narrows them, else those of any sheet.
+fn canadian_limits(name: usize, system: u64, vertical: u64) -> Limits
+    ensures { λ r. ⌜ r ≡ canadianAt name system vertical ⌝ }
+{
+    if name == LEVEL {
+        return field::limits_of(1, 1, 1, 9);
+    }
+    if name == SYSTEM {
+        return field::limits_of(0, 0, 1, 9);
+    }
+    if name == ZONE {
+        return field::limits_of(0, 0, 1, 9);
+    }
+    if name == VERTICAL {
+        return field::limits_of(2, 2, 1, 9);
+    }
+    if name == ACCURACY {
+        return field::limits_of(0, 0, 1, 9);
+    }
+    if name == PROFILES {
+        return field::limits_of(1201, 1201, 1, 7);
+    }
+    named_limits(name, system, vertical)
+}
+
+pub fn family_limits(family: u64, name: usize, system: u64, vertical: u64) -> Limits
+    ensures { λ r. ⌜ r ≡ familyLimitsAt family name system vertical ⌝ }
+{
+    if family == 1 {
+        return canadian_limits(name, system, vertical);
+    }
+    named_limits(name, system, vertical)
 }
 
 // A number of the header stands in the limits of its name.
@@ -181,6 +235,47 @@ pub fn header_obeys(h: Header) -> bool
 {
     let whole = frame::judge_whole(h);
     all3(fields_obey(h), reals_obey(h), whole.kind == 0)
+}
+
+fn stands_here(name: usize, h: Header, v: u64) -> bool
+    ensures { λ r. ⌜ r ≡ standsHereAt name h v ⌝ }
+{
+    field::in_range(canadian_limits(name, h.system, h.vertical), v)
+}
+
+fn counts_here(h: Header) -> bool
+    ensures { λ r. ⌜ r ≡ countsHere h ⌝ }
+{
+    let vertical = stands_here(VERTICAL, h, h.vertical);
+    let accuracy = stands_here(ACCURACY, h, h.accuracy);
+    let height = stands_here(HEIGHT, h, h.zstep);
+    all4(
+        vertical,
+        accuracy,
+        height,
+        stands_here(PROFILES, h, h.profiles),
+    )
+}
+
+fn canadian_fields(h: Header) -> bool
+    ensures { λ r. ⌜ r ≡ canadianFields h ⌝ }
+{
+    let level = stands_here(LEVEL, h, h.level);
+    let system = stands_here(SYSTEM, h, h.system);
+    let zone = stands_here(ZONE, h, h.zone);
+    let ground = stands_here(GROUND, h, h.ground);
+    all4(level, system, zone, both(ground, counts_here(h)))
+}
+
+// A header of either family.
+pub fn family_obeys(family: u64, h: Header) -> bool
+    ensures { λ r. ⌜ r ≡ familyObeys family h ⌝ }
+{
+    if family == 1 {
+        let whole = frame::judge_family(1, h);
+        return all3(canadian_fields(h), reals_obey(h), whole.kind == 0);
+    }
+    header_obeys(h)
 }
 
 fn zero_corner(c: Corner) -> bool

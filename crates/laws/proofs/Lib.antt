@@ -12,3 +12,4 @@ pub mod Naturals
 pub mod Cells
 pub mod Lists
 pub mod Told
+pub mod Families

@@ -2,3 +2,4 @@ pub mod Sign
 pub mod Digits
 pub mod Texts
 pub mod Lists
+pub mod Family

@@ -38,7 +38,7 @@ numbers-are s rest =
     (and-both
     (counts
     (h .accuracy ∷ h .xstep ∷ h .ystep ∷ h .zstep ∷ h .profiles ∷ s .taken ∷ s .closed ∷ s .posts ∷ s .filled ∷ []))
-    (and-both (counts (s .column ∷ s .finished ∷ p .posts ∷ p .row ∷ [])) (counts (p .read ∷ p .filled ∷ []))))
+    (and-both (counts (s .column ∷ s .finished ∷ p .posts ∷ p .row ∷ [])) (and-both (counts (p .read ∷ p .filled ∷ [])) (counts (s .family ∷ [])))))
 
 -- every session, whatever stands behind its numbers
 pub said-back : (s : Session) (rest : List ℤ) → sessionSaid (numbersOf s ++ rest) ≡ s
@@ -81,16 +81,20 @@ module _ (numbers : List ℤ) (t : isSession numbers ≡ true) where
   same : spread ≡ numbers
   same = one-by-one numbers 0 sessionNumbers many
 
-  parts : (noneNegative (run 0 5 spread) ≡ true) × ((noneNegative (run 15 9 spread) ≡ true) × ((noneNegative (run 26 4 spread) ≡ true) × (noneNegative (run 33 2 spread) ≡ true)))
+  parts : (noneNegative (run 0 5 spread) ≡ true) × ((noneNegative (run 15 9 spread) ≡ true) × ((noneNegative (run 26 4 spread) ≡ true) × ((noneNegative (run 33 2 spread) ≡ true) × (noneNegative (run 38 1 spread) ≡ true))))
   parts =
       let all = sym (enough-of numbers many) ∙ t in
       let a = split (noneNegative (run 0 5 numbers)) _ all in
       let b = split (noneNegative (run 15 9 numbers)) _ (a .1) in
-      let d = split (noneNegative (run 26 4 numbers)) _ (b .1) in (
+      let d = split (noneNegative (run 26 4 numbers)) _ (b .1) in
+      let e = split (noneNegative (run 33 2 numbers)) _ (d .1) in (
         ap (λ (l : List ℤ). noneNegative (run 0 5 l)) same ∙ a .0,
         (
           ap (λ (l : List ℤ). noneNegative (run 15 9 l)) same ∙ b .0,
-          (ap (λ (l : List ℤ). noneNegative (run 26 4 l)) same ∙ d .0, ap (λ (l : List ℤ). noneNegative (run 33 2 l)) same ∙ d .1),
+          (
+            ap (λ (l : List ℤ). noneNegative (run 26 4 l)) same ∙ d .0,
+            (ap (λ (l : List ℤ). noneNegative (run 33 2 l)) same ∙ e .0, ap (λ (l : List ℤ). noneNegative (run 38 1 l)) same ∙ e .1),
+          ),
         ),
       )
 
@@ -102,7 +106,8 @@ module _ (numbers : List ℤ) (t : isSession numbers ≡ true) where
       ∷ (counts-back (run 15 9 spread) (parts .1 .0) j
       ++ (n 24 ∷ n 25
       ∷ (counts-back (run 26 4 spread) (parts .1 .1 .0) j
-      ++ (n 30 ∷ n 31 ∷ n 32 ∷ (counts-back (run 33 2 spread) (parts .1 .1 .1) j ++ (n 35 ∷ n 36 ∷ n 37 ∷ drop sessionNumbers numbers))))))))
+      ++ (n 30 ∷ n 31 ∷ n 32 ∷ (counts-back (run 33 2 spread) (parts .1 .1 .1 .0) j
+      ++ (n 35 ∷ n 36 ∷ n 37 ∷ (counts-back (run 38 1 spread) (parts .1 .1 .1 .1) j ++ drop sessionNumbers numbers)))))))))
       ∙ same
 
 pub numbers-back : (numbers : List ℤ) → soundSaid numbers ≡ true → kept (sessionSaid numbers) numbers ≡ numbers

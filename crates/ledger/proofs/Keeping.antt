@@ -4,31 +4,31 @@ use mathlib.Core.List.{List, [], _∷_, _++_}
 use mathlib.Core.Path.{_≡_, refl, sym, _∙_, ap}
 use Prim.Native.Nat.{ℕ, _^_, _≤_, _<_, min}
 use native.Mathlib.Omega.{arith}
-use borrow.Author.Tests.{leb-true, eqb-true, le-leb, lt-leb}
+use borrow.Author.Tests.{leb-true, ltb-true, eqb-true, le-leb, lt-leb}
 use lib.Dec.{leb, eqb}
 use lib.IntN.{ℤ, pos}
 use lib.ListN.{length, drop}
 use lib.Seq.{sets, sets-eq}
 use Rattle.laws.specs.Sign.{_and_}
 use Rattle.laws.proofs.Tests.{by-test, clash, and-first}
-use Rattle.heading.proofs.HeadingFacts.{header-facts}
-use Rattle.heading.proofs.Modest.{modest}
+use Rattle.heading.proofs.HeadingFacts.{family-facts}
+use Rattle.heading.proofs.Modest.{framed-modest}
 use Rattle.session.specs.declared.Session.{Session}
-use Rattle.session.specs.Session.{sound, busy, begunObeys}
+use Rattle.session.specs.Session.{sound, busy, begunObeys, opened}
 use Rattle.session.proofs.Facts.{begun-facts}
-use Rattle.session.proofs.Sound.{fresh-or-begun, taken-bound, posts-bound}
+use Rattle.session.proofs.Sound.{fresh-or-begun, sound-known, taken-bound, posts-bound}
 use Rattle.delivery.specs.declared.Answer.{Answer}
 use Rattle.delivery.specs.declared.Answer.the-variants.{Taken, Held, Refused}
 use Rattle.delivery.specs.declared.Delivered.{Delivered}
 use Rattle.delivery.specs.Deliver.{Lent, deliverOf}
 use Rattle.delivery.proofs.SoundOut.{Idle, sound-out, idle-out, unsound-kept}
-use Rattle.ledger.specs.Numbers.{numbersOf, numbersAdded, sessionNumbers}
+use Rattle.ledger.specs.Numbers.{numbersOf, sessionNumbers}
 use Rattle.ledger.specs.Ledger.{noneNegative, run, isSession, sessionKept, sessionSaid, noSession}
-use Rattle.ledger.specs.Steps.{withSign, headerRow, countRow, profileRow, rowOf, Keepable}
+use Rattle.ledger.specs.Steps.{withSign, headerRow, countRow, profileRow, addedRow, rowOf, Keepable}
 
 -- four rows, one behind the other, are one
 pub rows-put : (s : Session) (numbers : List ℤ) → sessionNumbers ≤ length numbers
-    → sets (sets (sets (sets numbers 0 (headerRow (s .header))) 20 (countRow s)) 28 (profileRow (s .profile))) 37 (numbersAdded s)
+    → sets (sets (sets (sets numbers 0 (headerRow (s .header))) 20 (countRow s)) 28 (profileRow (s .profile))) 37 (addedRow s)
     ≡ rowOf s ++ drop sessionNumbers numbers
 rows-put s numbers le = sets-eq (rowOf s) numbers 0 le
 
@@ -43,14 +43,24 @@ posts-few s b =
     by-test (busy s) (λ t. begun-facts s b .profile t .posts)
     (λ t. by-test (eqb (s .profile .posts) 0) (λ e. omega (arith, eqb-true (s .profile .posts) 0 e)) (λ e. clash (rw e at t)))
 
+-- a family that is known is 0 or 1
+family-small : (s : Session) → sound s ≡ true → s .family < 2 ^ 63
+family-small s t = omega (arith, ltb-true (s .family) 2 (sound-known s t))
+
+-- a fresh session's: all zero but the family
+pub opened-row : (family : ℕ) → family < 2 ^ 63 → rowOf (opened family) ≡ numbersOf (opened family)
+opened-row family lt =
+    λ j. headerRow (opened family .header) ++ (countRow (opened family) ++ (profileRow (opened family .profile) ++ (opened family .sum ∷ small family lt j ∷ [])))
+
 begun-row : (s : Session) → sound s ≡ true → begunObeys s ≡ true → Idle s → rowOf s ≡ numbersOf s
 begun-row s t b i =
     let f = begun-facts s b in
     let h = s .header in
     let p = s .profile in
-    let m = modest h (f .header) in
-    let n : h .profiles ≤ 2048 = header-facts h (f .header) .profiles .greatest in
-    let a : h .accuracy ≤ 1 = header-facts h (f .header) .accuracy .greatest in
+    let g = family-facts (s .family) h (f .header) in
+    let m = framed-modest h g in
+    let n : h .profiles ≤ 2048 = g .profiles .greatest in
+    let a : h .accuracy ≤ 1 = g .accuracy .greatest in
     λ j.
     small (h .level) (omega (arith, m .level)) j
     ∷ small (h .system) (omega (arith, m .system)) j
@@ -90,10 +100,12 @@ begun-row s t b i =
     ∷ p .low
     ∷ p .high
     ∷ s .sum
+    ∷ small (s .family) (family-small s t) j
     ∷ []
 
 pub row-is : (s : Session) → sound s ≡ true → Idle s → rowOf s ≡ numbersOf s
-row-is s t i = fresh-or-begun s t (λ e. ap rowOf e ∙ ap numbersOf (sym e)) (λ b. begun-row s t b i)
+row-is s t i =
+    fresh-or-begun s t (λ e. ap rowOf e ∙ opened-row (s .family) (family-small s t) ∙ ap numbersOf (sym e)) (λ b. begun-row s t b i)
 
 -- ---- numbers that are no session's take no block
 
@@ -147,6 +159,7 @@ too-few numbers lt = let e : leb sessionNumbers (length numbers) ≡ false = lt-
 
 pub enough-of : (numbers : List ℤ) → sessionNumbers ≤ length numbers
     → isSession numbers
-    ≡ (noneNegative (run 0 5 numbers) and noneNegative (run 15 9 numbers) and noneNegative (run 26 4 numbers) and noneNegative (run 33 2 numbers))
+    ≡ (noneNegative (run 0 5 numbers) and noneNegative (run 15 9 numbers) and noneNegative (run 26 4 numbers) and noneNegative (run 33 2 numbers)
+    and noneNegative (run 38 1 numbers))
 unfolding isSession
 enough-of numbers le = let e : leb sessionNumbers (length numbers) ≡ true = le-leb sessionNumbers (length numbers) le in rw e

@@ -14,7 +14,7 @@ session-of κs a z z′ e e′ p q = one-answer (p .0) (q .0)
 pub open-result : OneResult open·told.Learnt
 open-result κs a z z′ e e′ p q = one-answer (p .0) (q .0)
 
-pub open-session : OneLeft open·told.Learnt (λ κs e. now (e .0))
+pub open-session : OneLeft open·told.Learnt (λ κs e. now (e .1 .0))
 open-session κs a z z′ e e′ p q = one-answer (p .1) (q .1)
 
 pub deliver : OneResult deliver·told.Learnt

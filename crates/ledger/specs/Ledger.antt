@@ -83,6 +83,7 @@ sessionKept numbers =
       finished = countKept numbers 27;
       profile = profileKept numbers;
       sum = keptAt numbers 37;
+      family = countKept numbers 38;
     }
 
 -- ---- which numbers are a session's
@@ -96,15 +97,15 @@ abbrev pub run : ℕ → ℕ → List ℤ → List ℤ
 run from count numbers = take count (drop from numbers)
 
 -- enough of them, and none negative where the session keeps a count: level to vertical, accuracy to filled, column to the open
--- profile's row, and what is read and filled of it
+-- profile's row, what is read and filled of it, and the family
 unfoldable pub isSession : List ℤ → Bool
 isSession numbers =
     leb sessionNumbers (length numbers) and noneNegative (run 0 5 numbers) and noneNegative (run 15 9 numbers)
-    and noneNegative (run 26 4 numbers) and noneNegative (run 33 2 numbers)
+    and noneNegative (run 26 4 numbers) and noneNegative (run 33 2 numbers) and noneNegative (run 38 1 numbers)
 
 -- a session that no clause lets pass, for numbers that are none
 abbrev pub noSession : Session
-noSession = begun freshHeader
+noSession = begun 0 freshHeader
 
 unfoldable pub sessionSaid : List ℤ → Session
 sessionSaid numbers = cond (isSession numbers) (sessionKept numbers) noSession

@@ -22,9 +22,9 @@ abbrev pub numbersOfProfile : Profile → List ℤ
 numbersOfProfile p =
     pos (p .posts) ∷ pos (p .row) ∷ p .datum ∷ p .least ∷ p .greatest ∷ pos (p .read) ∷ pos (p .filled) ∷ p .low ∷ p .high ∷ []
 
--- request 1: the sum
+-- request 1: the sum; request 2: the family
 abbrev pub numbersAdded : Session → List ℤ
-numbersAdded s = s .sum ∷ []
+numbersAdded s = s .sum ∷ pos (s .family) ∷ []
 
 abbrev pub numbersOf : Session → List ℤ
 numbersOf s =
@@ -32,7 +32,7 @@ numbersOf s =
 
 -- how many they are: `DEM_SESSION`
 abbrev pub sessionNumbers : ℕ
-sessionNumbers = 38
+sessionNumbers = 39
 
 -- in a lent slice: "Numbers past `DEM_SESSION` are never looked at or changed."
 abbrev pub kept : Session → List ℤ → List ℤ

@@ -9,7 +9,7 @@ use Rattle.session.specs.declared.Profile.{Profile}
 use Rattle.session.specs.declared.Session.{Session}
 use Rattle.delivery.specs.declared.Answer.the-variants.{Taken}
 use Rattle.delivery.specs.declared.Delivered.{Delivered}
-use Rattle.ledger.specs.Numbers.{numbersOf, numbersAdded, sessionNumbers}
+use Rattle.ledger.specs.Numbers.{numbersOf, sessionNumbers}
 
 abbrev pub withSign : ℕ → ℤ
 withSign n = pos (min n 9223372036854775807)
@@ -28,8 +28,11 @@ abbrev pub profileRow : Profile → List ℤ
 profileRow p =
     withSign (p .posts) ∷ withSign (p .row) ∷ p .datum ∷ p .least ∷ p .greatest ∷ withSign (p .read) ∷ withSign (p .filled) ∷ p .low ∷ p .high ∷ []
 
+abbrev pub addedRow : Session → List ℤ
+addedRow s = s .sum ∷ withSign (s .family) ∷ []
+
 abbrev pub rowOf : Session → List ℤ
-rowOf s = headerRow (s .header) ++ (countRow s ++ (profileRow (s .profile) ++ numbersAdded s))
+rowOf s = headerRow (s .header) ++ (countRow s ++ (profileRow (s .profile) ++ addedRow s))
 
 -- a delivery that was taken: there are numbers enough, and what is kept of its session is the session
 pub record Keepable (d : Delivered) (numbers : List ℤ) : Type 0 where

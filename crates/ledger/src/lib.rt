@@ -6,7 +6,7 @@ use delivery::Answer;
 use delivery::Delivered;
 use session::Session;
 ghost use mathlib.Core.Path.{_≡_};
-ghost use Rattle.session.specs.Session.{fresh};
+ghost use Rattle.session.specs.Session.{opened};
 ghost use Rattle.delivery.specs.Deliver.{answerKind, answerPlace};
 ghost use Rattle.delivery.proofs.SoundOut.{Idle};
 ghost use Rattle.lines.specs.Lines.{Given};
@@ -15,7 +15,7 @@ ghost use Rattle.ledger.specs.Ledger.{sessionSaid, soundSaid, completeSa
 ghost use Rattle.ledger.specs.Steps.{Keepable};
 
 // The numbers of a session; include/desk.h names them DEM_SESSION.
-pub const NUMBERS: usize = 38;
+pub const NUMBERS: usize = 39;
 
 // The session that numbers say; one that is not sound where they say none.
 pub fn session_of(numbers: &[i64]) -> Session
@@ -25,17 +25,17 @@ pub fn session_of(numbers: &[i64]) -> Session
         return reading::session_kept(numbers);
     }
     let none = session::new();
-    session::begun(none.header)
+    session::begun(0, none.header)
 }
 
-// A fresh session: 0, or 12 and nothing changed where there are too few numbers.
-pub fn open(numbers: &mut [i64]) -> u32
-    ensures { λ r. ⌜ (r ≡ openKind (now (numbers .entry))) × (now (numbers .exit) ≡ openedWith fresh (now (numbers .entry))) ⌝ }
+// A fresh session for sheets of a family, whatever its number: 0, or 12 and nothing changed where there are too few numbers.
+pub fn open(family: u32, numbers: &mut [i64]) -> u32
+    ensures { λ r. ⌜ (r ≡ openKind (now (numbers .entry))) × (now (numbers .exit) ≡ openedWith (opened family) (now (numbers .entry))) ⌝ }
 {
     if numbers.len() < NUMBERS {
         return 12;
     }
-    row::keep(session::new(), numbers);
+    row::keep(session::opened(family as u64), numbers);
     0
 }
 

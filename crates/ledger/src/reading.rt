@@ -89,6 +89,7 @@ pub(crate) fn session_kept(numbers: &[i64]) -> Session
         finished: count_at(numbers, 27),
         profile,
         sum: number_at(numbers, 37),
+        family: count_at(numbers, 38),
     }
 }
 
@@ -117,6 +118,9 @@ pub(crate) fn is_session(numbers: &[i64]) -> bool
         none_negative(&numbers[0..5]),
         none_negative(&numbers[15..24]),
         none_negative(&numbers[26..30]),
-        none_negative(&numbers[33..35]),
+        figures::both(
+            none_negative(&numbers[33..35]),
+            none_negative(&numbers[38..39]),
+        ),
     )
 }

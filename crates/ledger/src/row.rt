@@ -7,8 +7,8 @@ ghost use mathlib.Core.List.{_++_};
 ghost use Prim.Native.Nat.{_+_, _≤_};
 ghost use lib.ListN.{length, drop};
 ghost use lib.Seq.{sets};
-ghost use Rattle.ledger.specs.Numbers.{numbersAdded, sessionNumbers};
-ghost use Rattle.ledger.specs.Steps.{withSign, headerRow, countRow, profileRow, rowOf};
+ghost use Rattle.ledger.specs.Numbers.{sessionNumbers};
+ghost use Rattle.ledger.specs.Steps.{withSign, headerRow, countRow, profileRow, addedRow, rowOf};
 
 // The greatest number of 64 bits with a sign.
 const GREATEST: u64 = 9223372036854775807;
@@ -109,10 +109,10 @@ fn put_profile(p: Profile, numbers: &mut [i64])
 // What the session has been given since the first twenty, eight and nine.
 fn put_added(s: Session, numbers: &mut [i64])
     requires { ⌜ sessionNumbers ≤ length (now numbers) ⌝ }
-    ensures { λ _. ⌜ now (numbers .exit) ≡ sets (now (numbers .entry)) 37 (numbersAdded s) ⌝ }
+    ensures { λ _. ⌜ now (numbers .exit) ≡ sets (now (numbers .entry)) 37 (addedRow s) ⌝ }
 {
     let sum = s.sum;
-    let row = [sum];
+    let row = [sum, signed(s.family)];
     put_row(&row, 37, numbers);
 }
 

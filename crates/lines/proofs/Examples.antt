@@ -11,14 +11,14 @@ use Rattle.frame.specs.declared.Corner.{Corner}
 use Rattle.frame.specs.declared.Header.{Header}
 use Rattle.session.specs.Session.{noProfile, fresh}
 use Rattle.session.specs.declared.Session.{Session}
-use Rattle.lines.specs.Lines.{units, headLine, postsLine, rangeLine, endLine, reportText, endText, unfinishedText, refusedText, hundredths}
+use Rattle.lines.specs.Lines.{units, spacing, headLine, postsLine, rangeLine, endLine, reportText, endText, unfinishedText, refusedText, hundredths}
 
 abbrev corner : ℕ → ℕ → Corner
 corner x y = record { x = pos (x * 10 ^ 9); y = pos (y * 10 ^ 9) }
 
--- "UTM zone 17, metres, spacing 30, 30, 1 .."
-abbrev header : Header
-header =
+-- "UTM zone 17, metres, spacing 30, 30, 1 ..", with any x and y spacing in billionths
+abbrev headerOf : ℕ → ℕ → Header
+headerOf x y =
     record {
       level = 1;
       system = 1;
@@ -32,8 +32,8 @@ header =
       least = pos (9 * 10 ^ 9);
       greatest = pos (12 * 10 ^ 9);
       accuracy = 0;
-      xstep = 30 * 10 ^ 9;
-      ystep = 30 * 10 ^ 9;
+      xstep = x;
+      ystep = y;
       zstep = 10 ^ 9;
       profiles = 2;
     }
@@ -42,7 +42,7 @@ header =
 abbrev listed : Session
 listed =
     record {
-      header = header;
+      header = headerOf (30 * 10 ^ 9) (30 * 10 ^ 9);
       taken = 3;
       closed = 2;
       posts = 5;
@@ -53,6 +53,7 @@ listed =
       finished = 0;
       profile = noProfile;
       sum = pos 4200;
+      family = 0;
     }
 
 the-paper's-lines : endText listed
@@ -60,12 +61,21 @@ the-paper's-lines : endText listed
     ++ (10
     ∷ (bytes "posts 5 void 1"
     ++ (10 ∷ (bytes "range 9.00 12.00" ++ (10 ∷ (bytes "end 3" ++ (10 ∷ [])))))))
-unfolding endText reportText headLine postsLine rangeLine endLine units spell count places latticeOf
+unfolding endText reportText headLine postsLine rangeLine endLine spacing units spell count places latticeOf
 the-paper's-lines = refl
 
 nothing-read : endText fresh ≡ bytes "unfinished 0" ++ (10 ∷ [])
-unfolding endText unfinishedText reportText headLine postsLine rangeLine endLine units spell count places latticeOf
+unfolding endText unfinishedText reportText headLine postsLine rangeLine endLine spacing units spell count places latticeOf
 nothing-read = refl
+
+-- 02, request 2: spacings that are not whole have two decimals, whole ones none
+of-a-metre : headLine (headerOf 750000000 1500000000) ≡ bytes "sheet 41 41 0.75 1.50 1.00" ++ (10 ∷ [])
+unfolding headLine spacing units spell count places latticeOf
+of-a-metre = refl
+
+whole-metres : headLine (headerOf (3 * 10 ^ 9) (12 * 10 ^ 9)) ≡ bytes "sheet 6 11 3 12 1.00" ++ (10 ∷ [])
+unfolding headLine spacing units spell count places latticeOf
+whole-metres = refl
 
 a-short-block : refusedText 1 7 0 ≡ bytes "refused 1 7 0" ++ (10 ∷ [])
 unfolding refusedText spell count places

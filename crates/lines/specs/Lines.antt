@@ -26,16 +26,20 @@ abbrev pub line : List (List ℕ) → List ℕ
 line [] = 10 ∷ []
 line (p ∷ ps) = p ++ line ps
 
--- "Rows, columns and the three spacings": x and y in whole units, z in hundredths
+-- 02, request 2: a spacing in billionths: whole units as they are, any other with two decimals
+unfoldable pub spacing : ℕ → List ℕ
+spacing b = cond (eqb (b % 10 ^ 9) 0) (numeral (b / 10 ^ 9)) (units (b / 10 ^ 7))
+
+-- "Rows, columns and the three spacings": x and y in billionths, z in hundredths
 abbrev pub sheetLine : ℕ → ℕ → ℕ → ℕ → ℕ → List ℕ
 sheetLine rows columns x y z =
     line
-    (bytes "sheet " ∷ numeral rows ∷ bytes " " ∷ numeral columns ∷ bytes " " ∷ numeral x ∷ bytes " " ∷ numeral y ∷ bytes " "
+    (bytes "sheet " ∷ numeral rows ∷ bytes " " ∷ numeral columns ∷ bytes " " ∷ spacing x ∷ bytes " " ∷ spacing y ∷ bytes " "
     ∷ units z ∷ [])
 
 -- of a header, whose spacings are in billionths
 unfoldable pub headLine : Header → List ℕ
-headLine h = sheetLine (rowsOf h) (columnsOf h) (h .xstep / 10 ^ 9) (h .ystep / 10 ^ 9) (h .zstep / 10 ^ 7)
+headLine h = sheetLine (rowsOf h) (columnsOf h) (h .xstep) (h .ystep) (h .zstep / 10 ^ 7)
 
 -- "posts read and void posts": those not filled; none where more are filled than read, as in no sound session
 unfoldable pub postsLine : ℕ → ℕ → List ℕ

@@ -3,6 +3,7 @@ mod pieces;
 
 use frame::Header;
 use pieces::FEED;
+use pieces::HUNDREDTH;
 use session::Session;
 ghost use mathlib.Core.Path.{_≡_};
 ghost use Prim.Native.Nat.{_+_, _-_, _≤_};
@@ -10,19 +11,14 @@ ghost use lib.ListN.{length};
 ghost use Rattle.lines.specs.Lines.{sheetLine, headLine, postsLine, extreme, rangeLine, reportText, refusedText, unfinishedText, endText, Given};
 ghost use Rattle.lines.specs.Pieces.{Within};
 
-// A unit and a hundredth in billionths.
-const UNIT: u64 = 1000000000;
-
-const HUNDREDTH: u64 = 10000000;
-
 fn sheet_line(text: &mut [u8], rows: u64, columns: u64, x: u64, y: u64, z: u64) -> usize
     requires { ⌜ 216 ≤ length (now text) ⌝ }
     ensures { λ r. ⌜ Within 216 (now (text .entry)) 0 (sheetLine rows columns x y z) (now (text .exit)) r ⌝ }
 {
     let a = pieces::put_number(text, 0, b"sheet ", rows);
     let b = pieces::put_next(text, a, columns);
-    let c = pieces::put_next(text, b, x);
-    let d = pieces::put_next(text, c, y);
+    let c = pieces::put_spacing(text, b, x);
+    let d = pieces::put_spacing(text, c, y);
     let e = pieces::put_units(text, d, z);
     numerals::put_byte(text, e, FEED)
 }
@@ -33,14 +29,7 @@ fn head_line(text: &mut [u8], h: Header) -> usize
 {
     let rows = frame::rows(h);
     let columns = frame::columns(h);
-    sheet_line(
-        text,
-        rows,
-        columns,
-        h.xstep / UNIT,
-        h.ystep / UNIT,
-        h.zstep / HUNDREDTH,
-    )
+    sheet_line(text, rows, columns, h.xstep, h.ystep, h.zstep / HUNDREDTH)
 }
 
 fn voids_of(posts: u64, filled: u64) -> u64

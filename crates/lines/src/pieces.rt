@@ -3,7 +3,7 @@ ghost use mathlib.Core.List.{[], _∷_, _++_};
 ghost use Prim.Native.Nat.{_+_, _≤_};
 ghost use lib.ListN.{length};
 ghost use Rattle.numerals.specs.Numerals.{numeral};
-ghost use Rattle.lines.specs.Lines.{units, hundredths};
+ghost use Rattle.lines.specs.Lines.{units, hundredths, spacing};
 ghost use Rattle.lines.specs.Pieces.{Within};
 
 pub(crate) const FEED: u8 = 10;
@@ -11,6 +11,11 @@ pub(crate) const FEED: u8 = 10;
 const BLANK: u8 = 32;
 
 const POINT: u8 = 46;
+
+// A unit and a hundredth in billionths.
+const UNIT: u64 = 1000000000;
+
+pub(crate) const HUNDREDTH: u64 = 10000000;
 
 fn put_hundredths(text: &mut [u8], at: usize, n: u64) -> usize
     requires { ⌜ at + 23 ≤ length (now text) ⌝ }
@@ -55,6 +60,26 @@ pub(crate) fn put_units(text: &mut [u8], at: usize, n: u64) -> usize
 {
     let first = numerals::put_byte(text, at, BLANK);
     put_hundredths(text, first, n)
+}
+
+// A spacing in billionths: whole units as they are, any other with two decimals.
+fn put_step(text: &mut [u8], at: usize, b: u64) -> usize
+    requires { ⌜ at + 23 ≤ length (now text) ⌝ }
+    ensures { λ r. ⌜ Within 23 (now (text .entry)) at (spacing b) (now (text .exit)) r ⌝ }
+{
+    if b % UNIT == 0 {
+        return numerals::put_number(text, at, b / UNIT);
+    }
+    put_hundredths(text, at, b / HUNDREDTH)
+}
+
+// A blank and a spacing.
+pub(crate) fn put_spacing(text: &mut [u8], at: usize, b: u64) -> usize
+    requires { ⌜ at + 36 ≤ length (now text) ⌝ }
+    ensures { λ r. ⌜ Within 36 (now (text .entry)) at (32 ∷ spacing b) (now (text .exit)) r ⌝ }
+{
+    let first = numerals::put_byte(text, at, BLANK);
+    put_step(text, first, b)
 }
 
 // A word and a height, which may lie below zero.

@@ -52,6 +52,7 @@ filled-same s column p hs =
             high = tally-merged (profileTally p) hs j .high;
           };
       sum = s .sum +ℤ sumOf (filledOnly hs);
+      family = s .family;
     }
 
 -- a block's counts and its sum are gone on from

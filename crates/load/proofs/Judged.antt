@@ -146,15 +146,15 @@ module _ (s : Session) (number : ℕ) (block : List ℕ) where
     idle-is = ap not (eq-eqb (s .profile .posts) 0 idle)
 
     pub later-opens : s .closed < s .header .profiles
-        → opening s number block (recordB (s .closed + 1) block) ≡ later s number block
+        → opening s number block (recordB (s .family) (s .closed + 1) block) ≡ later s number block
     later-opens h =
-        pick-first (ltb (s .closed) (s .header .profiles)) (opening s number block (recordB (s .closed + 1) block)) _ (lt-ltb (s .closed) (s .header .profiles) h)
+        pick-first (ltb (s .closed) (s .header .profiles)) (opening s number block (recordB (s .family) (s .closed + 1) block)) _ (lt-ltb (s .closed) (s .header .profiles) h)
         ∙ pick-second (busy s) (further s number block) _ idle-is
 
     pub later-ends : s .header .profiles ≤ s .closed
         → unless (recordC block) number (fills (finishedSession s) 0 []) ≡ later s number block
     later-ends h =
-        pick-second (ltb (s .closed) (s .header .profiles)) (opening s number block (recordB (s .closed + 1) block)) _ (le-ltb (s .closed) (s .header .profiles) h)
+        pick-second (ltb (s .closed) (s .header .profiles)) (opening s number block (recordB (s .family) (s .closed + 1) block)) _ (le-ltb (s .closed) (s .header .profiles) h)
         ∙ pick-second (busy s) (further s number block) _ idle-is
 
 pub finish-lies : (s : Session) (number : ℕ) (block : List ℕ) (cells : ℕ) (scratch : List ℤ)

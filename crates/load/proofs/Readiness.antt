@@ -3,7 +3,7 @@ use mathlib.Core.Bool.{true}
 use mathlib.Core.Path.{_≡_}
 use Prim.Native.Nat.{_≤_}
 use native.Mathlib.Omega.{arith}
-use Rattle.heading.proofs.HeadingFacts.{header-facts}
+use Rattle.heading.proofs.HeadingFacts.{family-facts}
 use Rattle.session.specs.Session.{sound}
 use Rattle.session.specs.declared.Session.{Session}
 use Rattle.session.proofs.Facts.{begun-facts}
@@ -14,7 +14,7 @@ pub ready-of : (s : Session) → sound s ≡ true → 1 ≤ s .taken → Ready s
 ready-of s t h =
     let o = sound-begun s t h in
     let f = begun-facts s o in
-    let g = header-facts (s .header) (f .header) in
+    let g = family-facts (s .family) (s .header) (f .header) in
     record {
       columns-most = g .columns .1;
       rows-most = g .rows .1;

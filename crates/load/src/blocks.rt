@@ -75,9 +75,9 @@ fn open_block(s: Session, number: u64, block: &[u8], head: Head, scratch: &mut [
 // The next profile's first block, whose head is read first.
 fn start_profile(s: Session, number: u64, block: &[u8], scratch: &mut [i32]) -> Judged
     requires { ⌜ Next s number (now block) (now scratch) × ((busy s ≡ false) × (s .closed < s .header .profiles)) ⌝ }
-    ensures { λ r. ⌜ Judging s (opening s number (now (block .entry)) (recordB (s .closed + 1) (now (block .entry)))) (cellsOf (s .header)) (now (scratch .exit)) r ⌝ }
+    ensures { λ r. ⌜ Judging s (opening s number (now (block .entry)) (recordB (s .family) (s .closed + 1) (now (block .entry)))) (cellsOf (s .header)) (now (scratch .exit)) r ⌝ }
 {
-    let headed = profile::record_b::read_head(s.closed + 1, block);
+    let headed = profile::record_b::read_head(s.family, s.closed + 1, block);
     match headed {
         Headed::Profile(head) => open_block(s, number, block, head, scratch),
         Headed::Refused(kind, byte) => verdict::refused(s, kind, number, byte),

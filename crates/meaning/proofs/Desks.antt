@@ -5,7 +5,7 @@ use mathlib.Core.Path.{_≡_, refl, _∙_, ap, ap₂}
 use lib.IntN.{ℤ}
 use Prim.Native.Nat.{ℕ}
 use Rattle.session.specs.declared.Session.{Session}
-use Rattle.session.specs.Session.{fresh}
+use Rattle.session.specs.Session.{opened}
 use Rattle.delivery.specs.declared.Answer.{Answer}
 use Rattle.delivery.specs.declared.Delivered.{Delivered}
 use Rattle.delivery.specs.Deliver.{Lent, lend, deliverOf, lentAfter}
@@ -18,8 +18,8 @@ pub record Desk : Type 0 where
 abbrev pub desk : Session → Lent → Desk
 desk s lent = record { session = s; lent = lent }
 
-abbrev pub atFirst : List ℤ → Desk
-atFirst grid = desk fresh (lend grid)
+abbrev pub atFirst : ℕ → List ℤ → Desk
+atFirst family grid = desk (opened family) (lend grid)
 
 abbrev pub answered : Desk → Delivery → Answer
 answered k d = deliverOf (k .session) (d .number) (d .bytes) (k .lent) .answer

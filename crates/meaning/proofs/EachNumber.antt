@@ -12,25 +12,28 @@ use lib.Dec.{eqb, ltb, leb, lit<}
 use borrow.Author.Tests.{eqb-true, eqb-false, eq-eqb, ltb-true, ltb-false, leb-true}
 use Rattle.laws.proofs.Integers.{parts-same, multiple-parts, minus-parts}
 use Rattle.laws.specs.Lists.{below, from, joined}
+use Rattle.laws.specs.Family.{isCanadian}
 use Rattle.laws.specs.Sign.{sameZ, notNegative, _and_}
-use Rattle.laws.proofs.SameNumbers.{sameZ-fails}
+use Rattle.laws.proofs.SameNumbers.{sameZ-is, sameZ-fails}
 use Rattle.laws.proofs.Tests.{by-test, clash, split}
 use Rattle.number.specs.declared.Reading.{Reading}
 use Rattle.number.specs.Integer.{integer}
 use Rattle.number.specs.Real.{real}
 use Rattle.number.specs.Grammar.{IntegerMeans, RealMeans}
 use Rattle.number.proofs.Grammar.{integer-means, real-means}
-use Rattle.field.specs.Field.{stretch, restFault, limits, inRange, inLimits, ranged, wholeAt}
+use Rattle.field.specs.Field.{realAt, stretch, restFault, limits, postsLimits, inRange, inLimits, ranged, wholeAt}
 use Rattle.field.specs.declared.Limits.{Limits}
-use Rattle.heading.specs.Heading.{Name, limitsOf, headerOf}
-use Rattle.heading.specs.Heading.Name.{level, system, zone, ground, vertical, accuracy, spacing, height as tall, profiles}
-use Rattle.heading.proofs.LimitKinds.{limits-kind}
-use Rattle.sheet.specs.RecordA.{fields, firstFault}
-use Rattle.sheet.proofs.HeaderA.{field-fine}
-use Rattle.sheet.proofs.RulesA.{sheet-fine}
+use Rattle.corner.specs.Corner.{arcSeconds}
+use Rattle.heading.specs.Heading.{Name, limitsOf, familyLimits, spacingAt, headerOf}
+use Rattle.heading.specs.Heading.Name.{level, system, zone, ground, vertical, accuracy, spacing, height as tall, profiles, minutes, seconds}
+use Rattle.heading.proofs.LimitKinds.{family-kind}
+use Rattle.sheet.specs.RecordA.{canadianFront, back, judge, fieldsFault}
+use Rattle.sheet.specs.RecordA.Rule.{spaced}
+use Rattle.sheet.proofs.HeaderA.{front-field, field-fine}
+use Rattle.sheet.proofs.RulesA.{sheet-fine, sheet-corner}
 use Rattle.profile.specs.RecordB.{recordB, headFault, headFields, headOf, hundredths, isDatum, datumField}
 use Rattle.profile.specs.declared.record_b.Headed.the-variants.{Profile}
-use Rattle.profile.proofs.RecordLaws.{head-bounds, all-read}
+use Rattle.profile.proofs.RecordLaws.{head-bounds, posts-kind, all-read}
 use Rattle.ground.specs.Blocks.{blockAt, blocksIn}
 use Rattle.ground.specs.Posts.{judgePost, postsFault, void, voidPost, filledIn}
 use Rattle.ground.proofs.PostsRead.{passed, fault-on, fault-none}
@@ -38,9 +41,9 @@ use Rattle.ground.proofs.Heights.{height-filled}
 use Rattle.ground.proofs.Weights.{filled-append}
 use Rattle.meaning.specs.Text.{profilesIn, startOf, headIn, headerIn, roomIn, postsIn, postBlock, postByte, postIn, heightIn, heightsIn, allHeights, allPosts, filledPosts, zIn}
 use Rattle.meaning.specs.Rules.{firstBreach, inBlock, postsOfBlock, postsByte, blockRules, blocksOf, placeRules, when, isWhole, closingRules}
-use Rattle.meaning.specs.Exact.{AllMean, headerNumbers, headNumbers, Exact}
+use Rattle.meaning.specs.Exact.{ArcMeans, AllMean, headerNumbers, headNumbers, Exact}
 use Rattle.meaning.proofs.Lists.{Kept, kept-front, kept-rest, kept-at}
-use Rattle.meaning.proofs.Placed.{first-kept, behind-kept, profile-kept, headRule, behindHead, behindPlace, header-says, header-read}
+use Rattle.meaning.proofs.Placed.{first-kept, behind-kept, profile-kept, headRule, behindHead, behindPlace, header-says, header-read, family-known}
 use Rattle.meaning.proofs.EachPost.{begun-with}
 
 -- ---- readings of kind 0
@@ -67,9 +70,9 @@ room-shape : (n : ℕ) → 1 ≤ n → roomIn n ≡ 146 + 170 * (n - 1)
 room-shape zero h = absurd (omega (arith, h))
 room-shape (suc n) h = let e : suc n - 1 ≡ n = omega arith in rw e
 
-module _ (text : List ℕ) (kept : firstBreach text .kind ≡ 0) (j : ℕ) (inside : j < profilesIn text) (begun : startOf text j < blocksIn text) where
+module _ (family : ℕ) (text : List ℕ) (kept : firstBreach family text .kind ≡ 0) (j : ℕ) (inside : j < profilesIn text) (begun : startOf text j < blocksIn text) where
   behind : Kept (behindHead text j)
-  behind = behind-kept (headRule text j) (behindHead text j) (profile-kept text kept j inside begun)
+  behind = behind-kept (headRule family text j) (behindHead text j) (profile-kept family text kept j inside begun)
 
   -- the rules of each of its blocks are kept
   block-kept : (k : ℕ) → k < blocksOf text j → Kept (blockRules text j k)
@@ -116,15 +119,15 @@ module _ (text : List ℕ) (kept : firstBreach text .kind ≡ 0) (j : ℕ) (insi
       ∙ block-post (suc k) (omega (arith, split, small, more, lt, room, shape)) r (omega (arith, split, small, more, lt)))
 
   -- its head has no fault
-  pub head-fine : headFault (suc j) (blockAt text (startOf text j)) .kind ≡ 0
-  head-fine = first-kept (headRule text j) (behindHead text j) (profile-kept text kept j inside begun)
+  pub head-fine : headFault family (suc j) (blockAt text (startOf text j)) .kind ≡ 0
+  head-fine = first-kept (headRule family text j) (behindHead text j) (profile-kept family text kept j inside begun)
 
-  head-read : recordB (suc j) (blockAt text (startOf text j)) ≡ Profile (headIn text j)
+  head-read : recordB family (suc j) (blockAt text (startOf text j)) ≡ Profile (headIn text j)
   unfolding recordB
-  head-read = rw (eq-eqb (headFault (suc j) (blockAt text (startOf text j)) .kind) 0 head-fine)
+  head-read = rw (eq-eqb (headFault family (suc j) (blockAt text (startOf text j)) .kind) 0 head-fine)
 
   datum-most : natAbs (headIn text j .datum) ≤ 1000000
-  datum-most = head-bounds (suc j) (blockAt text (startOf text j)) (headIn text j) head-read .2
+  datum-most = head-bounds family (suc j) (blockAt text (startOf text j)) (headIn text j) head-read .2
 
   -- a post is void exactly where its height is
   pub void-as-post : (i : ℕ) → i < postsIn text j → sameZ (heightIn text j i) void ≡ sameZ (postIn text j i) voidPost
@@ -132,7 +135,7 @@ module _ (text : List ℕ) (kept : firstBreach text .kind ≡ 0) (j : ℕ) (insi
       let range = passed (integer (stretch (postByte i) 6 (blockAt text (startOf text j + postBlock i)))) (post-judged-well i lt) .most in
       by-test (sameZ (postIn text j i) voidPost) (λ e. rw e)
       (λ e.
-      height-filled (zIn text) (headIn text j .datum) (postIn text j i) range (header-says text kept .zstep .greatest) datum-most
+      height-filled (zIn text) (headIn text j .datum) (postIn text j i) range (header-says family text kept .zstep .greatest) datum-most
       (λ v. clash (sym (ap (λ (p : ℤ). sameZ p voidPost) v) ∙ e))
       ∙ sym e)
 
@@ -171,7 +174,7 @@ as-many-posts text =
     joined-many (heightsIn text) (λ j. map (postIn text j) (below (postsIn text j))) 0 (profilesIn text)
     (λ j. length-map (below (postsIn text j)) (heightIn text j) ∙ sym (length-map (below (postsIn text j)) (postIn text j)))
 
-module _ (text : List ℕ) (kept : firstBreach text .kind ≡ 0) where
+module _ (family : ℕ) (text : List ℕ) (kept : firstBreach family text .kind ≡ 0) where
   pub filled-posts : filledIn (allHeights text) ≡ filledPosts (allPosts text)
   filled-posts =
       joined-as (heightsIn text) (λ j. map (postIn text j) (below (postsIn text j))) 0 (profilesIn text)
@@ -179,7 +182,7 @@ module _ (text : List ℕ) (kept : firstBreach text .kind ≡ 0) where
       filled-as (heightIn text j) (postIn text j) 0 (postsIn text j)
       (λ i r s.
       let few : i < postsIn text j = omega (arith, s) in
-      void-as-post text kept j (omega (arith, q)) (begun-with text j i few) i few))
+      void-as-post family text kept j (omega (arith, q)) (begun-with text j i few) i few))
 
 -- ---- fields in their limits
 
@@ -203,6 +206,17 @@ whole-says l s n z = let p = limits-pass l (integer s) n z in rw (← p .1) (int
 stepped-says : (l : Limits) (s : List ℕ) → (l .kind ≡ 0 → ⊥) → ranged l (real s) .kind ≡ 0 → RealMeans s (pos (notNegative (real s .value)))
 stepped-says l s n z = let p = limits-pass l (real s) n z in rw (← p .1) (real-says s (p .0))
 
+-- an x or y spacing of either family, where it is above zero
+not-below : (z : ℤ) → 1 ≤ notNegative z → z ≡ pos (notNegative z)
+not-below (pos n) h = refl
+not-below (negsuc n) h = absurd (omega (arith, h))
+
+spaced-says : (family by-system by-unit : ℕ) (s : List ℕ) → judge family spaced by-system by-unit s .kind ≡ 0 → 1 ≤ notNegative (real s .value)
+    → RealMeans s (pos (notNegative (real s .value)))
+spaced-says family by-system by-unit s z some =
+    by-test (isCanadian family) (λ c. rw (← not-below (real s .value) some) (real-says s (rw c at z)))
+    (λ c. stepped-says (limitsOf spacing by-system by-unit) s (λ e. omega (arith, e)) (rw c at z))
+
 -- one number allowed is that number
 fixed-says : (v kind : ℕ) (s : List ℕ) → (kind ≡ 0 → ⊥) → ranged (limits v v 1 kind) (integer s) .kind ≡ 0 → IntegerMeans s (pos v)
 fixed-says v kind s n z =
@@ -217,54 +231,54 @@ fixed-says v kind s n z =
 
 -- ---- record A
 
-module _ (block : List ℕ) (fine : firstFault block fields .kind ≡ 0) where
+module _ (family : ℕ) (block : List ℕ) (fine : fieldsFault family block .kind ≡ 0) (xsome : 1 ≤ spacingAt 817 block) (ysome : 1 ≤ spacingAt 829 block) where
   abbrev by : Name → Limits
-  by name = limitsOf name (wholeAt 157 block) (wholeAt 535 block)
+  by name = familyLimits family name (wholeAt 157 block) (wholeAt 535 block)
 
   named : (name : Name) → (limitsOf name 0 0 .kind ≡ 0 → ⊥) → by name .kind ≡ 0 → ⊥
-  named name n z = n (sym (limits-kind name (wholeAt 157 block) (wholeAt 535 block)) ∙ z)
+  named name n z = n (sym (family-kind family name (wholeAt 157 block) (wholeAt 535 block)) ∙ z)
 
   pub header-means : AllMean block (headerNumbers (headerOf block))
-  unfolding fields headerOf
+  unfolding back headerOf
   header-means = (
-    whole-says (by level) (stretch 145 6 block) (named level (λ e. omega arith)) (field-fine block fine 145 (lit< tt)),
+    whole-says (by level) (stretch 145 6 block) (named level (λ e. omega arith)) (field-fine family block fine 145 (lit< tt)),
     (
-      whole-says (by system) (stretch 157 6 block) (named system (λ e. omega arith)) (field-fine block fine 157 (lit< tt)),
+      whole-says (by system) (stretch 157 6 block) (named system (λ e. omega arith)) (field-fine family block fine 157 (lit< tt)),
       (
-        whole-says (by zone) (stretch 163 6 block) (named zone (λ e. omega arith)) (field-fine block fine 163 (lit< tt)),
+        whole-says (by zone) (stretch 163 6 block) (named zone (λ e. omega arith)) (field-fine family block fine 163 (lit< tt)),
         (
-          whole-says (by ground) (stretch 529 6 block) (named ground (λ e. omega arith)) (field-fine block fine 529 (lit< tt)),
+          whole-says (by ground) (stretch 529 6 block) (named ground (λ e. omega arith)) (field-fine family block fine 529 (lit< tt)),
           (
-            whole-says (by vertical) (stretch 535 6 block) (named vertical (λ e. omega arith)) (field-fine block fine 535 (lit< tt)),
+            whole-says (by vertical) (stretch 535 6 block) (named vertical (λ e. omega arith)) (field-fine family block fine 535 (lit< tt)),
             (
-              real-says (stretch 547 24 block) (field-fine block fine 547 (lit< tt)),
+              real-says (stretch 547 24 block) (field-fine family block fine 547 (lit< tt)),
               (
-                real-says (stretch 571 24 block) (field-fine block fine 571 (lit< tt)),
+                real-says (stretch 571 24 block) (field-fine family block fine 571 (lit< tt)),
                 (
-                  real-says (stretch 595 24 block) (field-fine block fine 595 (lit< tt)),
+                  real-says (stretch 595 24 block) (field-fine family block fine 595 (lit< tt)),
                   (
-                    real-says (stretch 619 24 block) (field-fine block fine 619 (lit< tt)),
+                    real-says (stretch 619 24 block) (field-fine family block fine 619 (lit< tt)),
                     (
-                      real-says (stretch 643 24 block) (field-fine block fine 643 (lit< tt)),
+                      real-says (stretch 643 24 block) (field-fine family block fine 643 (lit< tt)),
                       (
-                        real-says (stretch 667 24 block) (field-fine block fine 667 (lit< tt)),
+                        real-says (stretch 667 24 block) (field-fine family block fine 667 (lit< tt)),
                         (
-                          real-says (stretch 691 24 block) (field-fine block fine 691 (lit< tt)),
+                          real-says (stretch 691 24 block) (field-fine family block fine 691 (lit< tt)),
                           (
-                            real-says (stretch 715 24 block) (field-fine block fine 715 (lit< tt)),
+                            real-says (stretch 715 24 block) (field-fine family block fine 715 (lit< tt)),
                             (
-                              real-says (stretch 739 24 block) (field-fine block fine 739 (lit< tt)),
+                              real-says (stretch 739 24 block) (field-fine family block fine 739 (lit< tt)),
                               (
-                                real-says (stretch 763 24 block) (field-fine block fine 763 (lit< tt)),
+                                real-says (stretch 763 24 block) (field-fine family block fine 763 (lit< tt)),
                                 (
-                                  whole-says (by accuracy) (stretch 811 6 block) (named accuracy (λ e. omega arith)) (field-fine block fine 811 (lit< tt)),
+                                  whole-says (by accuracy) (stretch 811 6 block) (named accuracy (λ e. omega arith)) (field-fine family block fine 811 (lit< tt)),
                                   (
-                                    stepped-says (by spacing) (stretch 817 12 block) (named spacing (λ e. omega arith)) (field-fine block fine 817 (lit< tt)),
+                                    spaced-says family (wholeAt 157 block) (wholeAt 535 block) (stretch 817 12 block) (field-fine family block fine 817 (lit< tt)) xsome,
                                     (
-                                      stepped-says (by spacing) (stretch 829 12 block) (named spacing (λ e. omega arith)) (field-fine block fine 829 (lit< tt)),
+                                      spaced-says family (wholeAt 157 block) (wholeAt 535 block) (stretch 829 12 block) (field-fine family block fine 829 (lit< tt)) ysome,
                                       (
-                                        stepped-says (by tall) (stretch 841 12 block) (named tall (λ e. omega arith)) (field-fine block fine 841 (lit< tt)),
-                                        (whole-says (by profiles) (stretch 859 6 block) (named profiles (λ e. omega arith)) (field-fine block fine 859 (lit< tt)), tt),
+                                        stepped-says (by tall) (stretch 841 12 block) (named tall (λ e. omega arith)) (field-fine family block fine 841 (lit< tt)),
+                                        (whole-says (by profiles) (stretch 859 6 block) (named profiles (λ e. omega arith)) (field-fine family block fine 859 (lit< tt)), tt),
                                       ),
                                     ),
                                   ),
@@ -311,16 +325,16 @@ datum-says s z =
     (λ d. absurd (let q : _≡_ {A = ℕ} 7 0 = rw (e, d) at z in omega (arith, q))))
     (λ e. absurd (eqb-false (real s .kind) 0 e (rw e at z)))
 
-pub head-means : (number : ℕ) (block : List ℕ) → headFault number block .kind ≡ 0 → AllMean block (headNumbers number (headOf block))
-head-means number block z =
+pub head-means : (family : ℕ) (number : ℕ) (block : List ℕ) → headFault family number block .kind ≡ 0 → AllMean block (headNumbers number (headOf block))
+head-means family number block z =
     by-test (eqb (length block) 1024)
     (λ l.
-    let r = all-read (headFields number block) (rw l at z) in (
+    let r = all-read (headFields family number block) (rw l at z) in (
       fixed-says 1 9 (stretch 1 6 block) (λ e. omega (arith, e)) (r .0),
       (
         fixed-says number 9 (stretch 7 6 block) (λ e. omega (arith, e)) (r .1 .0),
         (
-          whole-says (limits 1 2048 1 7) (stretch 13 6 block) (λ e. omega (arith, e)) (r .1 .1 .0),
+          whole-says (postsLimits family) (stretch 13 6 block) (λ e. omega (arith, e, posts-kind family)) (r .1 .1 .0),
           (
             fixed-says 1 9 (stretch 19 6 block) (λ e. omega (arith, e)) (r .1 .1 .1 .0),
             (
@@ -344,19 +358,74 @@ head-means number block z =
 
 -- ---- the whole text
 
-module _ (text : List ℕ) (kept : firstBreach text .kind ≡ 0) where
-  pub each-number : Exact text
+module _ (family : ℕ) (text : List ℕ) (kept : firstBreach family text .kind ≡ 0) where
+  -- both spacings are above zero
+  steps-some : (1 ≤ spacingAt 817 (blockAt text 0)) × (1 ≤ spacingAt 829 (blockAt text 0))
+  unfolding headerOf
+  steps-some =
+      let x : 250000000 ≤ spacingAt 817 (blockAt text 0) = header-says family text kept .xstep .least in
+      let y : 250000000 ≤ spacingAt 829 (blockAt text 0) = header-says family text kept .ystep .least in
+      (omega (arith, x), omega (arith, y))
+
+  -- the corner's text, where the family has one
+  fine : fieldsFault family (blockAt text 0) .kind ≡ 0
+  fine = sheet-fine family (family-known family text kept) (blockAt text 0) (header-read family text kept)
+
+  arc-says : isCanadian family ≡ true → (first : ℕ) (z : ℤ) → arcSeconds first (blockAt text 0) ≡ z
+      → integer (stretch first 4 (blockAt text 0)) .kind ≡ 0
+      → ranged (familyLimits family minutes (wholeAt 157 (blockAt text 0)) (wholeAt 535 (blockAt text 0))) (integer (stretch (first + 4) 2 (blockAt text 0))) .kind ≡ 0
+      → ranged (familyLimits family seconds (wholeAt 157 (blockAt text 0)) (wholeAt 535 (blockAt text 0))) (real (stretch (first + 6) 7 (blockAt text 0))) .kind ≡ 0
+      → ArcMeans (blockAt text 0) first z
+  unfolding arcSeconds
+  arc-says c first z e d m s =
+      let block = blockAt text 0 in
+      record {
+        degrees = integer (stretch first 4 block) .value;
+        minutes = integer (stretch (first + 4) 2 block) .value;
+        seconds = real (stretch (first + 6) 7 block) .value;
+        degrees-mean = integer-says (stretch first 4 block) d;
+        minutes-mean = integer-says (stretch (first + 4) 2 block) (limits-pass (limits 0 59 1 7) (integer (stretch (first + 4) 2 block)) (λ q. omega (arith, q)) (rw c at m) .0);
+        seconds-mean =
+            real-says (stretch (first + 6) 7 block)
+            (limits-pass (limits 0 59999999999 1 7) (real (stretch (first + 6) 7 block)) (λ q. omega (arith, q)) (rw c at s) .0);
+        is = sym e;
+      }
+
+  corner-says : isCanadian family ≡ true
+      → ArcMeans (blockAt text 0) 110 (headerIn text .sw .x) × ArcMeans (blockAt text 0) 123 (headerIn text .sw .y)
+  unfolding headerOf canadianFront
+  corner-says c =
+      let block = blockAt text 0 in
+      let told : (sameZ (arcSeconds 110 block) (realAt 547 block) and sameZ (arcSeconds 123 block) (realAt 571 block)) ≡ true =
+      rw c at (sheet-corner family (family-known family text kept) block (header-read family text kept))
+      in
+      let both = split (sameZ (arcSeconds 110 block) (realAt 547 block)) _ told in (
+        arc-says c 110 (realAt 547 block) (sameZ-is (arcSeconds 110 block) (realAt 547 block) .0 (both .0))
+            (front-field family block fine c 110 (lit< tt))
+            (front-field family block fine c 114 (lit< tt))
+            (front-field family block fine c 116 (lit< tt)),
+        arc-says c 123 (realAt 571 block) (sameZ-is (arcSeconds 123 block) (realAt 571 block) .0 (both .1))
+            (front-field family block fine c 123 (lit< tt))
+            (front-field family block fine c 127 (lit< tt))
+            (front-field family block fine c 129 (lit< tt)),
+      )
+
+  pub each-number : Exact family text
   each-number =
       record {
-        header = header-means (blockAt text 0) (sheet-fine (blockAt text 0) (header-read text kept));
-        heads = λ j inside begun. head-means (suc j) (blockAt text (startOf text j)) (head-fine text kept j inside begun);
+        header =
+            header-means family (blockAt text 0) fine
+            (steps-some .0)
+            (steps-some .1);
+        heads = λ j inside begun. head-means family (suc j) (blockAt text (startOf text j)) (head-fine family text kept j inside begun);
         posts =
             λ j i inside lt.
             let s = stretch (postByte i) 6 (blockAt text (startOf text j + postBlock i)) in
-            let p = passed (integer s) (post-judged-well text kept j inside (begun-with text j i lt) i lt) in
-            integer-says s (sym (ap (λ (r : Reading). r .kind) (p .same)) ∙ post-judged-well text kept j inside (begun-with text j i lt) i lt);
+            let p = passed (integer s) (post-judged-well family text kept j inside (begun-with text j i lt) i lt) in
+            integer-says s (sym (ap (λ (r : Reading). r .kind) (p .same)) ∙ post-judged-well family text kept j inside (begun-with text j i lt) i lt);
         spacing =
-            let z = header-says text kept .zstep .step in
+            let z = header-says family text kept .zstep .step in
             omega (arith, div-add-mod' (headerIn text .zstep) (10 ^ 7), z);
         filled = λ j i n. let e : sameZ (postIn text j i) voidPost ≡ false = sameZ-fails (postIn text j i) voidPost n in rw e;
+        corner = corner-says;
       }

@@ -139,9 +139,9 @@ module _ (text : List ℕ) (lent : List ℤ) where
 
 -- ---- posts and cells
 
-module _ (text : List ℕ) (kept : firstBreach text .kind ≡ 0) where
+module _ (family : ℕ) (text : List ℕ) (kept : firstBreach family text .kind ≡ 0) where
   post-placed : (j i : ℕ) → j < profilesIn text → i < postsIn text j → PlacedAt text j
-  post-placed j i h k = placed-at text kept j h (begun-with text j i k)
+  post-placed j i h k = placed-at family text kept j h (begun-with text j i k)
 
   post-row : (j i : ℕ) → j < profilesIn text → i < postsIn text j → rowIn text j + i < rowsIn text
   post-row j i h k = let p = post-placed j i h k in omega (arith, p .row-room, posts-most text j, k)

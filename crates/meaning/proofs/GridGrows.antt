@@ -35,7 +35,7 @@ all-alike : {A : Type 0} (f : ℕ → A) (v : A) (a n : ℕ) → ((i : ℕ) → 
 all-alike f v a zero h = refl
 all-alike f v a (suc n) h = ap₂ _∷_ (sym (h a)) (all-alike f v (suc a) n h)
 
-module _ (text more block : List ℕ) (k : ℕ) (x : Extends text more block k) where
+module _ (family : ℕ) (text more block : List ℕ) (k : ℕ) (x : Extends text more block k) where
   same-profiles : 1 ≤ k → profilesIn more ≡ profilesIn text
   same-profiles some = ap (λ (h : Header). h .profiles) (header-same text more block k x some)
 
@@ -186,7 +186,7 @@ module _ (text more block : List ℕ) (k : ℕ) (x : Extends text more block k) 
       (λ f. omega (arith, ltb-false j c e, ltb-false c j f)))
 
   -- Its heights, in the cells of its posts, make the grid of the longer text.
-  pub grid-grows : (some : 1 ≤ k) (c : ℕ) (here : Here text k c) → firstBreach more .kind ≡ 0 → (lent : List ℤ)
+  pub grid-grows : (some : 1 ≤ k) (c : ℕ) (here : Here text k c) → firstBreach family more .kind ≡ 0 → (lent : List ℤ)
       → cellsIn more ≤ length lent
       → sets (gridOf text lent) (cellOfPost more c (postsIn text c)) (newHeights text more block k x some c here) ≡ gridOf more lent
   grid-grows some c here kept lent room =
@@ -223,7 +223,7 @@ module _ (text more block : List ℕ) (k : ℕ) (x : Extends text more block k) 
       new-many : postsIn more c ≡ postsIn text c + length new
       new-many =
           posts-after text more block k x some c here
-          ∙ ap (λ (n : ℕ). postsIn text c + n) (sym (new-length text more block k x some c here))
+          ∙ ap (λ (n : ℕ). postsIn text c + n) (sym (new-length family text more block k x some c here))
 
       as-long : length (sets grid at new) ≡ length (gridOf more lent)
       as-long =
@@ -244,13 +244,13 @@ module _ (text more block : List ℕ) (k : ℕ) (x : Extends text more block k) 
       inside t h =
           let i = postsIn text c + t in
           let last = postsIn text c + (length new - 1) in
-          let sheet = post-in-sheet more kept c last c-is (omega (arith, h, new-many)) in
+          let sheet = post-in-sheet family more kept c last c-is (omega (arith, h, new-many)) in
           let long = grid-length text lent (omega (arith, room, same-cells some)) in
           let fits : at + length new ≤ length grid = omega (arith, sheet, long, room, h) in
           let is : cellOfPost more c i ≡ at + t = omega arith in
           sets-inside grid at new t void fits h
           ∙ height-is t h
-          ∙ sym (post-in-its-cell more kept lent c i c-is (omega (arith, h, new-many)))
+          ∙ sym (post-in-its-cell family more kept lent c i c-is (omega (arith, h, new-many)))
           ∙ ap (λ (n : ℕ). getD (gridOf more lent) n void) is
 
       -- a new post at this cell would be one of those written
@@ -263,7 +263,7 @@ module _ (text more block : List ℕ) (k : ℕ) (x : Extends text more block k) 
           ∙ cell-same some q
           (λ j i s late.
           let same = new-post some c here j i (s .post) late in
-          let p = placed-at more kept j (s .profile) (begun-with more j i (s .post)) in
+          let p = placed-at family more kept j (s .profile) (begun-with more j i (s .post)) in
           let column : columnIn more j ≡ q / rowsIn more = p .column ∙ sym (s .column-is) in
           let cell : cellOfPost more j i ≡ q =
           ap₂ (λ (u v : ℕ). u * rowsIn more + v) column (sym (s .row-is)) ∙ div-add-mod' q (rowsIn more)

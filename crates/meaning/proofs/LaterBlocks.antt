@@ -53,7 +53,7 @@ block-verdict b n byte block v =
     (λ e. rw e (by-test (eqb (restFault (byte + 6 * n) block .kind) 0) (λ t. rw t) (λ t. rw (t, t))))
     (λ e. rw (e, e))
 
-module _ (text more block : List ℕ) (k : ℕ) (x : Extends text more block k) (some : 1 ≤ k) (c : ℕ) (here : Here text k c) where
+module _ (family : ℕ) (text more block : List ℕ) (k : ℕ) (x : Extends text more block k) (some : 1 ≤ k) (c : ℕ) (here : Here text k c) where
   rules-here : blockRules more c (k - startOf text c)
       ≡ rulesAt k (postsOfBlock (headIn more c .posts) (k - startOf text c)) (postsByte (k - startOf text c)) block
   rules-here =
@@ -66,7 +66,7 @@ module _ (text more block : List ℕ) (k : ℕ) (x : Extends text more block k) 
   same-z = ap zOf (sym (header-same text more block k x some))
 
   -- the first profile's column, once it has begun
-  first-column : 1 < k → begunSession text .column ≡ columnIn more 0
+  first-column : 1 < k → begunSession family text .column ≡ columnIn more 0
   first-column lt =
       let b : ltb 1 (blocksIn text) ≡ true = lt-ltb 1 (blocksIn text) (omega (arith, lt, x .many)) in
       rw b (ap numberOn (sym (column-same text more block k x some 0 lt)))
@@ -74,10 +74,10 @@ module _ (text more block : List ℕ) (k : ℕ) (x : Extends text more block k) 
   -- ---- "Each further block"
 
   module _ (begun : startOf text c < k) where
-    profile-so-far : begunSession text .profile ≡ readSoFar text more c
+    profile-so-far : begunSession family text .profile ≡ readSoFar text more c
     profile-so-far =
         let d = sym (head-same text more block k x c begun) in
-        busy-profile text more block k x some c here begun
+        busy-profile family text more block k x some c here begun
         ∙ (λ i.
         record {
           posts = d i .posts;
@@ -94,7 +94,7 @@ module _ (text more block : List ℕ) (k : ℕ) (x : Extends text more block k) 
     posts-next : min (headIn more c .posts - postsIn text c) 170 ≡ postsOfBlock (headIn more c .posts) (k - startOf text c)
     posts-next =
         let e : k - startOf text c ≡ suc (k - startOf text c - 1) = omega (arith, begun) in
-        let r = read-is text more block k x some c here begun in
+        let r = read-is family text more block k x some c here begun in
         ap (λ (a : ℕ). min (headIn more c .posts - a) 170) r ∙ ap (postsOfBlock (headIn more c .posts)) (sym e)
 
     byte-next : 1 ≡ postsByte (k - startOf text c)
@@ -103,11 +103,11 @@ module _ (text more block : List ℕ) (k : ℕ) (x : Extends text more block k) 
         ap postsByte e
 
     pub further-rules :
-        further (begunSession text) k block
+        further (begunSession family text) k block
         ≡ byBreach (firstBroken (blockRules more c (k - startOf text c)))
-        (filling (begunSession text) k (columnIn more 0) (readSoFar text more c) (newHeights text more block k x some c here))
+        (filling (begunSession family text) k (columnIn more 0) (readSoFar text more c) (newHeights text more block k x some c here))
     further-rules =
-        let s = begunSession text in
+        let s = begunSession family text in
         let q = k - startOf text c in
         let m = headIn more c .posts in
         let datum = headIn more c .datum in
@@ -130,23 +130,23 @@ module _ (text more block : List ℕ) (k : ℕ) (x : Extends text more block k) 
     head-here =
         ap headOf (sym (ap (blockAt more) (same-start text more block k x some c here ∙ opens) ∙ x .next))
 
-    column-place : columnPlace (begunSession text) (headOf block) ≡ columnPlaceIn more c
+    column-place : columnPlace (begunSession family text) (headOf block) ≡ columnPlaceIn more c
     column-place = ap₂ columnBy (sym (header-same text more block k x some)) head-here
 
-    row-place : rowPlace (begunSession text) (headOf block) ≡ rowPlaceIn more c
+    row-place : rowPlace (begunSession family text) (headOf block) ≡ rowPlaceIn more c
     row-place = ap₂ rowBy (sym (header-same text more block k x some)) head-here
 
-    closed-is-c : begunSession text .closed ≡ c
-    closed-is-c = closed-here text more block k x some c here
+    closed-is-c : begunSession family text .closed ≡ c
+    closed-is-c = closed-here family text more block k x some c here
 
-    column-test : columnFits (begunSession text) (columnPlaceIn more c) ≡ columnKept more c (columnPlaceIn more c)
+    column-test : columnFits (begunSession family text) (columnPlaceIn more c) ≡ columnKept more c (columnPlaceIn more c)
     column-test =
-        let s = begunSession text in
+        let s = begunSession family text in
         fits-is s (columnPlaceIn more c)
         ∙ (λ i. fits (closed-is-c i) (sym (header-same text more block k x some) i) (s .column) (columnPlaceIn more c))
         ∙ go c refl (columnPlaceIn more c)
       where
-        go : (j : ℕ) → j ≡ c → (p : Place) → fits j (headerIn more) (begunSession text .column) p ≡ columnKept more j p
+        go : (j : ℕ) → j ≡ c → (p : Place) → fits j (headerIn more) (begunSession family text .column) p ≡ columnKept more j p
         go j e Off = refl
         go zero e (On a) = refl
         go (suc j) e (On a) =
@@ -155,17 +155,17 @@ module _ (text more block : List ℕ) (k : ℕ) (x : Extends text more block k) 
             rw z
             (ap (λ (b : ℕ). eqb a (b + suc j)) (first-column lt))
 
-    row-test : rowFits (begunSession text) (headIn more c .posts) (rowPlaceIn more c) ≡ rowKept more c (rowPlaceIn more c)
+    row-test : rowFits (begunSession family text) (headIn more c .posts) (rowPlaceIn more c) ≡ rowKept more c (rowPlaceIn more c)
     row-test = go (rowPlaceIn more c)
       where
-        go : (p : Place) → rowFits (begunSession text) (headIn more c .posts) p ≡ rowKept more c p
+        go : (p : Place) → rowFits (begunSession family text) (headIn more c .posts) p ≡ rowKept more c p
         go Off = refl
         go (On r) = ap (λ (h : Header). leb (r + headIn more c .posts) (rowsOf h)) (sym (header-same text more block k x some))
 
     pub place-verdict : (v : Verdict)
-        → placed (begunSession text) k (headOf block) v ≡ byBreach (firstBroken (placeRules more c)) v
+        → placed (begunSession family text) k (headOf block) v ≡ byBreach (firstBroken (placeRules more c)) v
     place-verdict v =
-        let s = begunSession text in
+        let s = begunSession family text in
         let st : startOf more c ≡ k = same-start text more block k x some c here ∙ opens in
         (λ i. cond (columnFits s (column-place i)) (cond (rowFits s (head-here i .posts) (row-place i)) v (wrong 10 k 49)) (wrong 10 k 25))
         ∙ ap₂ (λ (a b : Bool). cond a (cond b v (wrong 10 k 49)) (wrong 10 k 25)) column-test row-test
@@ -185,17 +185,17 @@ module _ (text more block : List ℕ) (k : ℕ) (x : Extends text more block k) 
         go true false = refl
         go true true = refl
 
-    column-first : firstColumn (begunSession text) (headOf block) ≡ columnIn more 0
+    column-first : firstColumn (begunSession family text) (headOf block) ≡ columnIn more 0
     column-first =
-        ap₂ (λ (n : ℕ) (p : Place). cond (eqb n 0) (placeNumber p) (begunSession text .column)) closed-is-c column-place ∙ go c refl
+        ap₂ (λ (n : ℕ) (p : Place). cond (eqb n 0) (placeNumber p) (begunSession family text .column)) closed-is-c column-place ∙ go c refl
       where
-        go : (j : ℕ) → j ≡ c → cond (eqb j 0) (placeNumber (columnPlaceIn more j)) (begunSession text .column) ≡ columnIn more 0
+        go : (j : ℕ) → j ≡ c → cond (eqb j 0) (placeNumber (columnPlaceIn more j)) (begunSession family text .column) ≡ columnIn more 0
         go zero e = number-is (columnPlaceIn more 0)
         go (suc j) e =
             let z : eqb (suc j) 0 ≡ false = ne-eqb (suc j) 0 (λ q. omega (arith, q)) in
             rw z (first-column (omega (arith, start-from text c, opens, e)))
 
-    profile-opened : opened (begunSession text) (headOf block) ≡ readSoFar text more c
+    profile-opened : opened (begunSession family text) (headOf block) ≡ readSoFar text more c
     profile-opened =
         let none : postsIn text c ≡ 0 = none-yet text c (omega (arith, opens, x .many)) in
         let empty : heightsIn text c ≡ [] = rw none in
@@ -213,10 +213,10 @@ module _ (text more block : List ℕ) (k : ℕ) (x : Extends text more block k) 
         }
 
     head-verdict : (n : ℕ)
-        → opening (begunSession text) k block (recordB n block)
-        ≡ byBreach (inBlock k (headFault n block)) (openingWith (begunSession text) k block (headOf block))
+        → opening (begunSession family text) k block (recordB family n block)
+        ≡ byBreach (inBlock k (headFault family n block)) (openingWith (begunSession family text) k block (headOf block))
     unfolding recordB
-    head-verdict n = by-test (eqb (headFault n block .kind) 0) (λ e. rw e) (λ e. rw e)
+    head-verdict n = by-test (eqb (headFault family n block .kind) 0) (λ e. rw e) (λ e. rw e)
 
     heights-first : heights (zIn more) (headIn more c .datum) (postsOf (min (headIn more c .posts) 146) 145 block)
         ≡ newHeights text more block k x some c here
@@ -232,16 +232,16 @@ module _ (text more block : List ℕ) (k : ℕ) (x : Extends text more block k) 
         ∙ ap (blockRules more c) (sym e)
 
     pub opening-rules :
-        opening (begunSession text) k block (recordB (begunSession text .closed + 1) block)
-        ≡ byBreach (firstBroken (inBlock k (headFault (suc c) block) ∷ (blockRules more c 0 ++ placeRules more c)))
-        (filling (begunSession text) k (columnIn more 0) (readSoFar text more c) (newHeights text more block k x some c here))
+        opening (begunSession family text) k block (recordB family (begunSession family text .closed + 1) block)
+        ≡ byBreach (firstBroken (inBlock k (headFault family (suc c) block) ∷ (blockRules more c 0 ++ placeRules more c)))
+        (filling (begunSession family text) k (columnIn more 0) (readSoFar text more c) (newHeights text more block k x some c here))
     opening-rules =
-        let s = begunSession text in
+        let s = begunSession family text in
         let m = headIn more c .posts in
         let hs = newHeights text more block k x some c here in
-        let head = inBlock k (headFault (suc c) block) in
+        let head = inBlock k (headFault family (suc c) block) in
         let fill = filling s k (columnIn more 0) (readSoFar text more c) hs in
-        let n : begunSession text .closed + 1 ≡ suc c = ap (λ (a : ℕ). a + 1) closed-is-c ∙ (omega arith) in
+        let n : begunSession family text .closed + 1 ≡ suc c = ap (λ (a : ℕ). a + 1) closed-is-c ∙ (omega arith) in
         let rows : filling s k (firstColumn s (headOf block)) (opened s (headOf block))
         (heights (zOf (headerIn text)) (opened s (headOf block) .datum) (postsOf (min (headOf block .posts) 146) 145 block))
         ≡ fill
@@ -249,7 +249,7 @@ module _ (text more block : List ℕ) (k : ℕ) (x : Extends text more block k) 
         filling s k (column-first i) (profile-opened i)
         (heights (same-z i) (profile-opened i .datum) (postsOf (min (head-here i .posts) 146) 145 block)))
         ∙ ap (filling s k (columnIn more 0) (readSoFar text more c)) heights-first in
-        ap (λ (a : ℕ). opening s k block (recordB a block)) n
+        ap (λ (a : ℕ). opening s k block (recordB family a block)) n
         ∙ head-verdict (suc c)
         ∙ ap (byBreach head)
         ((λ i. unless (postsRestFault 145 (min (head-here i .posts) 146) block) k (placed s k (headOf block) (rows i)))

@@ -34,46 +34,46 @@ use Rattle.meaning.proofs.Placed.{some-profiles, first-kept, behind-kep
 use Rattle.meaning.proofs.RulesGrow.{closingDue, further-due, opening-due, end-due}
 use Rattle.meaning.proofs.GridGrows.{heights-idle}
 
-module _ (text more block : List ℕ) (k : ℕ) (x : Extends text more block k) (some : 1 ≤ k) (kept : firstBreach text .kind ≡ 0) where
+module _ (family : ℕ) (text more block : List ℕ) (k : ℕ) (x : Extends text more block k) (some : 1 ≤ k) (kept : firstBreach family text .kind ≡ 0) where
   -- ---- a profile's block
 
   module _ (c : ℕ) (here : Here text k c) where
-    idle-or-busy : (b : Bool) → busy (begunSession text) ≡ b → ltb (begunSession text .closed) (profilesIn text) ≡ true
-        → later (begunSession text) k block
-        ≡ cond b (further (begunSession text) k block) (opening (begunSession text) k block (recordB (begunSession text .closed + 1) block))
+    idle-or-busy : (b : Bool) → busy (begunSession family text) ≡ b → ltb (begunSession family text .closed) (profilesIn text) ≡ true
+        → later (begunSession family text) k block
+        ≡ cond b (further (begunSession family text) k block) (opening (begunSession family text) k block (recordB family (begunSession family text .closed + 1) block))
     idle-or-busy true e l = rw e
     idle-or-busy false e l = rw (e, l)
 
     pub profile-verdict :
-        later (begunSession text) k block
-        ≡ byBreach (firstBreach more)
-        (fills (begunSession more) (nextCell (begunSession text) (columnIn more 0) (readSoFar text more c)) (newHeights text more block k x some c here))
+        later (begunSession family text) k block
+        ≡ byBreach (firstBreach family more)
+        (fills (begunSession family more) (nextCell (begunSession family text) (columnIn more 0) (readSoFar text more c)) (newHeights text more block k x some c here))
     profile-verdict =
-        let s = begunSession text in
+        let s = begunSession family text in
         let fill = filling s k (columnIn more 0) (readSoFar text more c) (newHeights text more block k x some c here) in
-        let after = fills (begunSession more) (nextCell s (columnIn more 0) (readSoFar text more c)) (newHeights text more block k x some c here) in
+        let after = fills (begunSession family more) (nextCell s (columnIn more 0) (readSoFar text more c)) (newHeights text more block k x some c here) in
         let n : ltb (s .closed) (profilesIn text) ≡ true
-        = lt-ltb (s .closed) (profilesIn text) (omega (arith, closed-here text more block k x some c here, here .below-n)) in
+        = lt-ltb (s .closed) (profilesIn text) (omega (arith, closed-here family text more block k x some c here, here .below-n)) in
         by-test (ltb (startOf text c) k)
         (λ t.
         let lt = ltb-true (startOf text c) k t in
         let rules = blockRules more c (k - startOf text c) in
-        idle-or-busy true (is-busy text more block k x some c here lt) n
-        ∙ further-rules text more block k x some c here lt
-        ∙ ap (byBreach (firstBroken rules)) (filling-rules text more block k x some c here)
+        idle-or-busy true (is-busy family text more block k x some c here lt) n
+        ∙ further-rules family text more block k x some c here lt
+        ∙ ap (byBreach (firstBroken rules)) (filling-rules family text more block k x some c here)
         ∙ sym (by-append rules (closingDue more c) after)
-        ∙ ap (λ (b : Breach). byBreach b after) (sym (further-due text more block k x some c here kept lt)))
+        ∙ ap (λ (b : Breach). byBreach b after) (sym (further-due family text more block k x some c here kept lt)))
         (λ t.
         let e : startOf text c ≡ k = omega (arith, ltb-false (startOf text c) k t, here .begins) in
-        let head = inBlock k (headFault (suc c) block) in
+        let head = inBlock k (headFault family (suc c) block) in
         let first = blockRules more c 0 in
         let place = placeRules more c in
-        idle-or-busy false (is-idle text more block k x some c here e) n
-        ∙ opening-rules text more block k x some c here e
-        ∙ ap (byBreach (firstBroken (head ∷ (first ++ place)))) (filling-rules text more block k x some c here)
+        idle-or-busy false (is-idle family text more block k x some c here e) n
+        ∙ opening-rules family text more block k x some c here e
+        ∙ ap (byBreach (firstBroken (head ∷ (first ++ place)))) (filling-rules family text more block k x some c here)
         ∙ sym (by-append (head ∷ (first ++ place)) (closingDue more c) after)
         ∙ ap (λ (l : List Breach). byBreach (firstBroken (head ∷ l)) after) (append-brackets first place (closingDue more c))
-        ∙ ap (λ (b : Breach). byBreach b after) (sym (opening-due text more block k x some c here kept e)))
+        ∙ ap (λ (b : Breach). byBreach b after) (sym (opening-due family text more block k x some c here kept e)))
 
   -- ---- record C
 
@@ -101,23 +101,23 @@ module _ (text more block : List ℕ) (k : ℕ) (x : Extends text more block k) 
         (λ lt. absurd (omega (arith, lt)))
         (omega (arith, x .one-more))
 
-    pub idle : busy (begunSession text) ≡ false
+    pub idle : busy (begunSession family text) ≡ false
     idle = rw (not-open text all)
 
-    pub session-finished : endOf text ≡ k → finishedSession (begunSession text) ≡ begunSession more
+    pub session-finished : endOf text ≡ k → finishedSession (begunSession family text) ≡ begunSession family more
     session-finished e =
-        let two : 1 < k = omega (arith, e, start-from text (profilesIn text), some-profiles text kept) in
-        let hs = sym (heights-idle text more block k x some behind) in
+        let two : 1 < k = omega (arith, e, start-from text (profilesIn text), some-profiles family text kept) in
+        let hs = sym (heights-idle family text more block k x some behind) in
         let taken : blocksIn text + 1 ≡ blocksIn more = omega (arith, x .many, x .one-more) in
         let a : ltb 1 (blocksIn text) ≡ true = lt-ltb 1 (blocksIn text) (omega (arith, two, x .many)) in
         let b : ltb 1 (blocksIn more) ≡ true = lt-ltb 1 (blocksIn more) (omega (arith, two, x .one-more)) in
-        let column : begunSession text .column ≡ begunSession more .column
+        let column : begunSession family text .column ≡ begunSession family more .column
         = rw (a, b) (ap numberOn (sym (column-same text more block k x some 0 two))) in
         let f : ltb (endOf more) (blocksIn more) ≡ true = lt-ltb (endOf more) (blocksIn more) (omega (arith, end-same, e, x .one-more)) in
-        let finished : 1 ≡ begunSession more .finished = rw f in
+        let finished : 1 ≡ begunSession family more .finished = rw f in
         let o = not-open text all in
         let p = not-open more all-closed in
-        let profile : begunSession text .profile ≡ begunSession more .profile = rw (o, p) in
+        let profile : begunSession family text .profile ≡ begunSession family more .profile = rw (o, p) in
         λ i.
         record {
           header = sym (header-same text more block k x some) i;
@@ -131,6 +131,7 @@ module _ (text more block : List ℕ) (k : ℕ) (x : Extends text more block k) 
           finished = finished i;
           profile = profile i;
           sum = sumOf (filledOnly (hs i));
+          family = family;
         }
 
     -- no more blocks than the sheet has
@@ -138,8 +139,8 @@ module _ (text more block : List ℕ) (k : ℕ) (x : Extends text more block k) 
     whole-blocks =
         by-test (ltb (endOf text) (blocksIn text))
         (λ t.
-        let last = kept-rest (joined (map (begunRules text) (below (profilesIn text)))) (lastRules text)
-        (behind-kept (inBlock 0 (faultOf (blockAt text 0))) (behindA text) kept) in
+        let last = kept-rest (joined (map (begunRules family text) (below (profilesIn text)))) (lastRules text)
+        (behind-kept (inBlock 0 (faultOf family (blockAt text 0))) (behindA family text) kept) in
         let rules : Kept (when (ltb (endOf text) (blocksIn text)) (endRules text))
         = kept-rest (when (leb (endOf text) (blocksIn text)) (sheetRules text)) (when (ltb (endOf text) (blocksIn text)) (endRules text)) last in
         let asked : Kept (endRules text) = rw t at rules in
@@ -153,10 +154,10 @@ module _ (text more block : List ℕ) (k : ℕ) (x : Extends text more block k) 
         within true e z = omega (arith, leb-true (blocksIn text) (blocksOfSheet text) e, x .many)
         within false e z = absurd (omega (arith, z))
 
-    all-complete : complete (begunSession text) ≡ isComplete text
+    all-complete : complete (begunSession family text) ≡ isComplete text
     all-complete =
-        let m : eqb (begunSession text .taken) 0 ≡ false = ne-eqb (begunSession text .taken) 0 (λ e. omega (arith, e, x .many, some)) in
-        let n : eqb (begunSession text .closed) (profilesIn text) ≡ true = eq-eqb (begunSession text .closed) (profilesIn text) all in
+        let m : eqb (begunSession family text .taken) 0 ≡ false = ne-eqb (begunSession family text .taken) 0 (λ e. omega (arith, e, x .many, some)) in
+        let n : eqb (begunSession family text .closed) (profilesIn text) ≡ true = eq-eqb (begunSession family text .closed) (profilesIn text) all in
         rw (m, n)
         (by-test (eqb (headerIn text .accuracy) 1)
         (λ a.
@@ -186,15 +187,15 @@ module _ (text more block : List ℕ) (k : ℕ) (x : Extends text more block k) 
         absurd (omega (arith, b, less, behind, x .many)))
 
     pub finish-verdict : isComplete text ≡ false
-        → later (begunSession text) k block ≡ byBreach (firstBreach more) (fills (begunSession more) 0 [])
+        → later (begunSession family text) k block ≡ byBreach (firstBreach family more) (fills (begunSession family more) 0 [])
     finish-verdict i =
         let d = due-now i in
-        let v = fills (begunSession more) 0 [] in
-        let n : ltb (begunSession text .closed) (profilesIn text) ≡ false
-        = le-ltb (begunSession text .closed) (profilesIn text) (omega (arith, all)) in
+        let v = fills (begunSession family more) 0 [] in
+        let n : ltb (begunSession family text .closed) (profilesIn text) ≡ false
+        = le-ltb (begunSession family text .closed) (profilesIn text) (omega (arith, all)) in
         let r : leb (suc k) (blocksOfSheet text) ≡ true = le-leb (suc k) (blocksOfSheet text) (omega (arith, d .1)) in
-        let e : firstBreach more ≡ firstBroken (inBlock k (recordC block) ∷ [])
-        = end-due text more block k x some kept behind
+        let e : firstBreach family more ≡ firstBroken (inBlock k (recordC block) ∷ [])
+        = end-due family text more block k x some kept behind
         ∙ ap
         (λ (b : Bool).
         firstBroken (rule b (breach 4 (blocksOfSheet text) 0) ∷ (inBlock (endOf text) (recordC (blockAt more (endOf text))) ∷ []))) r
@@ -204,15 +205,15 @@ module _ (text more block : List ℕ) (k : ℕ) (x : Extends text more block k) 
         ∙ sym (by-cons (inBlock k (recordC block)) [] v)
         ∙ ap (λ (b : Breach). byBreach b v) (sym e)
       where
-        idle-later : ltb (begunSession text .closed) (profilesIn text) ≡ false
-            → later (begunSession text) k block ≡ unless (recordC block) k (fills (finishedSession (begunSession text)) 0 [])
+        idle-later : ltb (begunSession family text .closed) (profilesIn text) ≡ false
+            → later (begunSession family text) k block ≡ unless (recordC block) k (fills (finishedSession (begunSession family text)) 0 [])
         idle-later n = rw (idle, n)
 
-    pub complete-breach : isComplete text ≡ true → firstBreach more ≡ breach 4 k 0
+    pub complete-breach : isComplete text ≡ true → firstBreach family more ≡ breach 4 k 0
     complete-breach i =
         let e : blocksOfSheet text ≡ k = omega (arith, leb-true (blocksOfSheet text) (blocksIn text) i, whole-blocks, x .many) in
         let r : leb (suc k) (blocksOfSheet text) ≡ false = lt-leb (suc k) (blocksOfSheet text) (omega (arith, e)) in
-        end-due text more block k x some kept behind
+        end-due family text more block k x some kept behind
         ∙ ap
         (λ (b : Bool).
         firstBroken (rule b (breach 4 (blocksOfSheet text) 0) ∷ (inBlock (endOf text) (recordC (blockAt more (endOf text))) ∷ []))) r
@@ -239,14 +240,14 @@ module _ (text more block : List ℕ) (k : ℕ) (x : Extends text more block k) 
       (λ a. let b : blocksOfSheet text ≡ endOf text + 1 = rw a in lt-leb (blocksOfSheet text) (blocksIn text) (omega (arith, b, o, h .ends, x .many)))
       (λ a. let b : blocksOfSheet text ≡ endOf text + 0 = rw a in lt-leb (blocksOfSheet text) (blocksIn text) (omega (arith, b, o, h .ends, x .many)))
 
-  pub complete-is : complete (begunSession text) ≡ isComplete text
+  pub complete-is : complete (begunSession family text) ≡ isComplete text
   complete-is =
       by-test (ltb (closedIn text) (profilesIn text))
       (λ t.
       let lt = ltb-true (closedIn text) (profilesIn text) t in
-      let n : eqb (begunSession text .closed) (profilesIn text) ≡ false
-      = ne-eqb (begunSession text .closed) (profilesIn text) (λ e. omega (arith, e, lt)) in
-      let m : eqb (begunSession text .taken) 0 ≡ false = ne-eqb (begunSession text .taken) 0 (λ e. omega (arith, e, x .many, some)) in
+      let n : eqb (begunSession family text .closed) (profilesIn text) ≡ false
+      = ne-eqb (begunSession family text .closed) (profilesIn text) (λ e. omega (arith, e, lt)) in
+      let m : eqb (begunSession family text .taken) 0 ≡ false = ne-eqb (begunSession family text .taken) 0 (λ e. omega (arith, e, x .many, some)) in
       rw (m, n) (sym (incomplete lt)))
       (λ t.
       all-complete (all-now (λ lt. omega (arith, lt, ltb-false (closedIn text) (profilesIn text) t))))

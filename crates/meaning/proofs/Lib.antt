@@ -18,3 +18,4 @@ pub mod Runs
 pub mod Witness
 pub mod ShutOut
 pub mod Demand3
+pub mod Northern

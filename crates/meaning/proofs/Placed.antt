@@ -8,14 +8,16 @@ use Prim.Native.Nat.{ℕ, _+_, _≤_, suc, _-_, zero, _<_}
 use native.Mathlib.Nat.{add-zero}
 use native.Mathlib.Omega.{arith}
 use Rattle.ground.specs.Blocks.{blocksIn, blockAt}
+use Rattle.laws.specs.Family.{known}
 use Rattle.laws.specs.Lists.{below, joined}
 use Rattle.laws.proofs.Tests.{by-test, clash}
 use Rattle.lattice.specs.declared.Place.{Place}
 use Rattle.lattice.specs.declared.Place.the-variants.{On, Off}
-use Rattle.heading.proofs.HeadingFacts.{Heading, header-facts}
-use Rattle.sheet.specs.RecordA.{faultOf, recordA}
+use Rattle.heading.proofs.HeadingFacts.{Framed, family-facts}
+use Rattle.sheet.specs.RecordA.{faultOf, recordOf}
 use Rattle.sheet.specs.declared.Checked.the-variants.{Sheet}
-use Rattle.sheet.proofs.SheetObeys.{sheet-obeys}
+use Rattle.sheet.proofs.SheetObeys.{family-sheet-obeys}
+use Rattle.sheet.proofs.RulesA.{fine-known}
 use Rattle.profile.specs.RecordB.{recordB, headFault, headOf}
 use Rattle.profile.specs.declared.record_b.Headed.the-variants.{Profile}
 use Rattle.profile.proofs.RecordLaws.{head-bounds}
@@ -59,24 +61,24 @@ pub record PlacedAt (text : List ℕ) (j : ℕ) : Type 0 where
   pub most : headIn text j .posts ≤ 2048
 
 -- a profile whose head has no fault has 1 to 2048 posts
-head-posts : (number : ℕ) (block : List ℕ) → headFault number block .kind ≡ 0
+head-posts : (family : ℕ) (number : ℕ) (block : List ℕ) → headFault family number block .kind ≡ 0
     → (1 ≤ headOf block .posts) × (headOf block .posts ≤ 2048)
 unfolding recordB
-head-posts number block h =
-    let p : recordB number block ≡ Profile (headOf block) = rw (eq-eqb (headFault number block .kind) 0 h) in
-    let b = head-bounds number block (headOf block) p in
+head-posts family number block h =
+    let p : recordB family number block ≡ Profile (headOf block) = rw (eq-eqb (headFault family number block .kind) 0 h) in
+    let b = head-bounds family number block (headOf block) p in
     (b .0, b .1)
 
 -- the rules of profiles and of the end, behind those of record A; and those of a profile's places and of what follows
-abbrev pub begunRules : List ℕ → ℕ → List Breach
-begunRules text j = when (hasBegun text j) (profileRules text j)
+abbrev pub begunRules : ℕ → List ℕ → ℕ → List Breach
+begunRules family text j = when (hasBegun text j) (profileRules family text j)
 
 abbrev pub lastRules : List ℕ → List Breach
 lastRules text =
     when (leb (endOf text) (blocksIn text)) (sheetRules text) ++ when (ltb (endOf text) (blocksIn text)) (endRules text)
 
-abbrev pub behindA : List ℕ → List Breach
-behindA text = joined (map (begunRules text) (below (profilesIn text))) ++ lastRules text
+abbrev pub behindA : ℕ → List ℕ → List Breach
+behindA family text = joined (map (begunRules family text) (below (profilesIn text))) ++ lastRules text
 
 abbrev pub behindPlace : List ℕ → ℕ → List Breach
 behindPlace text j =
@@ -85,8 +87,8 @@ behindPlace text j =
 abbrev pub behindHead : List ℕ → ℕ → List Breach
 behindHead text j = blockRules text j 0 ++ (placeRules text j ++ behindPlace text j)
 
-abbrev pub headRule : List ℕ → ℕ → Breach
-headRule text j = inBlock (startOf text j) (headFault (suc j) (blockAt text (startOf text j)))
+abbrev pub headRule : ℕ → List ℕ → ℕ → Breach
+headRule family text j = inBlock (startOf text j) (headFault family (suc j) (blockAt text (startOf text j)))
 
 abbrev columnRule : List ℕ → ℕ → Breach
 columnRule text j = rule (columnKept text j (columnPlaceIn text j)) (breach 10 (startOf text j) 25)
@@ -94,17 +96,22 @@ columnRule text j = rule (columnKept text j (columnPlaceIn text j)) (breach 10 (
 abbrev rowRule : List ℕ → ℕ → Breach
 rowRule text j = rule (rowKept text j (rowPlaceIn text j)) (breach 10 (startOf text j) 49)
 
-module _ (text : List ℕ) (kept : firstBreach text .kind ≡ 0) where
+module _ (family : ℕ) (text : List ℕ) (kept : firstBreach family text .kind ≡ 0) where
   -- record A has no fault
-  pub header-fine : faultOf (blockAt text 0) .kind ≡ 0
-  header-fine = first-kept (inBlock 0 (faultOf (blockAt text 0))) (behindA text) kept
+  pub header-fine : faultOf family (blockAt text 0) .kind ≡ 0
+  header-fine = first-kept (inBlock 0 (faultOf family (blockAt text 0))) (behindA family text) kept
 
-  pub header-read : recordA (blockAt text 0) ≡ Sheet (headerIn text)
-  unfolding recordA
-  header-read = rw (eq-eqb (faultOf (blockAt text 0) .kind) 0 header-fine)
+  pub header-read : recordOf family (blockAt text 0) ≡ Sheet (headerIn text)
+  unfolding recordOf
+  header-read = rw (eq-eqb (faultOf family (blockAt text 0) .kind) 0 header-fine)
 
-  pub header-says : Heading (headerIn text)
-  header-says = header-facts (headerIn text) (sheet-obeys (blockAt text 0) (headerIn text) header-read)
+  -- so the family is one that we know
+  pub family-known : known family ≡ true
+  family-known = fine-known family (blockAt text 0) header-fine
+
+  pub header-says : Framed (headerIn text)
+  header-says =
+      family-facts family (headerIn text) (family-sheet-obeys family family-known (blockAt text 0) (headerIn text) header-read)
 
   pub some-columns : 1 ≤ columnsIn text
   some-columns = header-says .columns .0
@@ -113,12 +120,12 @@ module _ (text : List ℕ) (kept : firstBreach text .kind ≡ 0) where
   some-profiles = header-says .profiles .least
 
   -- every rule of a profile that has begun is kept
-  pub profile-kept : (j : ℕ) → j < profilesIn text → startOf text j < blocksIn text → Kept (profileRules text j)
+  pub profile-kept : (j : ℕ) → j < profilesIn text → startOf text j < blocksIn text → Kept (profileRules family text j)
   profile-kept j h begun =
-      let all = behind-kept (inBlock 0 (faultOf (blockAt text 0))) (behindA text) kept in
-      let rules = kept-front (joined (map (begunRules text) (below (profilesIn text)))) (lastRules text) all in
-      let one : Kept (begunRules text j) =
-      kept-at (begunRules text) 0 (profilesIn text) j rules (omega arith) (omega (arith, h))
+      let all = behind-kept (inBlock 0 (faultOf family (blockAt text 0))) (behindA family text) kept in
+      let rules = kept-front (joined (map (begunRules family text) (below (profilesIn text)))) (lastRules text) all in
+      let one : Kept (begunRules family text j) =
+      kept-at (begunRules family text) 0 (profilesIn text) j rules (omega arith) (omega (arith, h))
       in
       let b : hasBegun text j ≡ true = lt-ltb (startOf text j) (blocksIn text) begun in
       rw b at one
@@ -127,7 +134,7 @@ module _ (text : List ℕ) (kept : firstBreach text .kind ≡ 0) where
   place-kept j h begun =
       kept-front (placeRules text j) (behindPlace text j)
       (kept-rest (blockRules text j 0) (placeRules text j ++ behindPlace text j)
-      (behind-kept (headRule text j) (behindHead text j) (profile-kept j h begun)))
+      (behind-kept (headRule family text j) (behindHead text j) (profile-kept j h begun)))
 
   column-kept : (j : ℕ) → j < profilesIn text → startOf text j < blocksIn text
       → columnKept text j (columnPlaceIn text j) ≡ true
@@ -143,8 +150,8 @@ module _ (text : List ℕ) (kept : firstBreach text .kind ≡ 0) where
   pub placed-at : (j : ℕ) → j < profilesIn text → startOf text j < blocksIn text → PlacedAt text j
   placed-at j h begun =
       let first : startOf text 0 < blocksIn text = omega (arith, begun, start-order text 0 j (omega arith)) in
-      let head = first-kept (headRule text j) (behindHead text j) (profile-kept j h begun) in
-      let posts = head-posts (suc j) (blockAt text (startOf text j)) head in
+      let head = first-kept (headRule family text j) (behindHead text j) (profile-kept j h begun) in
+      let posts = head-posts family (suc j) (blockAt text (startOf text j)) head in
       let behind = behind-kept (columnRule text j) (rowRule text j ∷ []) (place-kept j h begun) in
       let fits =
       rule-kept (rowKept text j (rowPlaceIn text j)) (breach 10 (startOf text j) 49) (λ e. omega (arith, e))

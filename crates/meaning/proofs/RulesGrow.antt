@@ -18,10 +18,11 @@ use Rattle.field.specs.Field.{restFault}
 use Rattle.frame.specs.declared.Header.{Header}
 use Rattle.frame.specs.Frame.{columnsOf, rowsOf}
 use Rattle.heading.specs.Heading.{headerOf}
-use Rattle.heading.proofs.HeadingFacts.{header-facts}
-use Rattle.sheet.specs.RecordA.{faultOf, recordA}
+use Rattle.heading.proofs.HeadingFacts.{family-facts}
+use Rattle.sheet.specs.RecordA.{faultOf, recordOf}
 use Rattle.sheet.specs.declared.Checked.the-variants.{Sheet}
-use Rattle.sheet.proofs.SheetObeys.{sheet-obeys}
+use Rattle.sheet.proofs.SheetObeys.{family-sheet-obeys}
+use Rattle.sheet.proofs.RulesA.{fine-known}
 use Rattle.profile.specs.declared.record_b.Head.{Head}
 use Rattle.profile.specs.RecordC.{recordC}
 use Rattle.profile.specs.RecordB.{headFault}
@@ -117,13 +118,13 @@ open-blocks t j h = omega (arith, h)
 all-blocks : (t : List ℕ) (j : ℕ) → startOf t (suc j) ≤ blocksIn t → blocksOf t j ≡ blocksFor (headIn t j .posts)
 all-blocks t j h = omega (arith, h)
 
-module _ (text more block : List ℕ) (k : ℕ) (x : Extends text more block k) where
+module _ (family : ℕ) (text more block : List ℕ) (k : ℕ) (x : Extends text more block k) where
   -- ---- the rules of earlier blocks
 
-  head-rule-same : (j : ℕ) → startOf text j < k → headRule more j ≡ headRule text j
+  head-rule-same : (j : ℕ) → startOf text j < k → headRule family more j ≡ headRule family text j
   head-rule-same j h =
       let s = start-same text more block k x j (omega (arith, h)) in
-      ap₂ (λ (b : ℕ) (l : List ℕ). inBlock b (headFault (suc j) l)) s (ap (blockAt more) s ∙ x .same (startOf text j) h)
+      ap₂ (λ (b : ℕ) (l : List ℕ). inBlock b (headFault family (suc j) l)) s (ap (blockAt more) s ∙ x .same (startOf text j) h)
 
   pub block-same : (j q : ℕ) → startOf text j < k → startOf text j + q < k → blockRules more j q ≡ blockRules text j q
   block-same j q h lt =
@@ -171,7 +172,7 @@ module _ (text more block : List ℕ) (k : ℕ) (x : Extends text more block k) 
       ∙ ap (λ (n : ℕ). closingBy n (headIn text j) (heightsIn text j)) (start-same text more block k x j (omega (arith, lt)))
 
   -- a whole profile has the same rules
-  profile-same : 1 ≤ k → (j : ℕ) → startOf text (suc j) ≤ k → profileRules more j ≡ profileRules text j
+  profile-same : 1 ≤ k → (j : ℕ) → startOf text (suc j) ≤ k → profileRules family more j ≡ profileRules family text j
   profile-same some j h =
       let lt : startOf text j < k = omega (arith, h, next-start text j) in
       let s = start-same text more block k x j (omega (arith, lt)) in
@@ -193,48 +194,48 @@ module _ (text more block : List ℕ) (k : ℕ) (x : Extends text more block k) 
       let closing = when (isWhole more j) (closingRules more j) in
       let further = joined (map (furtherRules more j) (below (blocksOf more j - 1))) in
       ap₂ (λ (a : Breach) (b : List Breach). profileBy a b (placeRules more j) further closing) (head-rule-same j lt) first
-      ∙ ap₂ (λ (a b : List Breach). profileBy (headRule text j) (blockRules text j 0) a b closing) (place-same some j lt) f
-      ∙ ap (profileBy (headRule text j) (blockRules text j 0) (placeRules text j) (joined (map (furtherRules text j) (below m)))) w
+      ∙ ap₂ (λ (a b : List Breach). profileBy (headRule family text j) (blockRules text j 0) a b closing) (place-same some j lt) f
+      ∙ ap (profileBy (headRule family text j) (blockRules text j 0) (placeRules text j) (joined (map (furtherRules text j) (below m)))) w
     where
       last-inside : (s n b : ℕ) → b ≡ n → 1 ≤ n → s + n ≤ k → s + (b - 1) < k
       last-inside s n b e one le = omega (arith, e, one, le)
 
-  record-a-kept : 1 ≤ k → firstBreach text .kind ≡ 0 → faultOf (blockAt more 0) .kind ≡ 0
-  record-a-kept some kept = ap (λ (l : List ℕ). faultOf l .kind) (x .same 0 some) ∙ header-fine text kept
+  record-a-kept : 1 ≤ k → firstBreach family text .kind ≡ 0 → faultOf family (blockAt more 0) .kind ≡ 0
+  record-a-kept some kept = ap (λ (l : List ℕ). faultOf family l .kind) (x .same 0 some) ∙ header-fine family text kept
 
   profiles-same : 1 ≤ k → profilesIn more ≡ profilesIn text
   profiles-same some = ap (λ (h : Header). h .profiles) (header-same text more block k x some)
 
-  whole-kept : 1 ≤ k → firstBreach text .kind ≡ 0 → (j : ℕ) → j < profilesIn text → startOf text (suc j) ≤ k
-      → Kept (begunRules more j)
+  whole-kept : 1 ≤ k → firstBreach family text .kind ≡ 0 → (j : ℕ) → j < profilesIn text → startOf text (suc j) ≤ k
+      → Kept (begunRules family more j)
   whole-kept some kept j n h =
       let lt : startOf text j < k = omega (arith, h, next-start text j) in
       let s = start-same text more block k x j (omega (arith, lt)) in
       let b : hasBegun more j ≡ true = lt-ltb (startOf more j) (blocksIn more) (omega (arith, s, lt, x .one-more)) in
-      ap (λ (l : List Breach). firstBroken l .kind) (asked (hasBegun more j) (profileRules more j) b ∙ profile-same some j h)
-      ∙ profile-kept text kept j n (omega (arith, lt, x .many))
+      ap (λ (l : List Breach). firstBroken l .kind) (asked (hasBegun more j) (profileRules family more j) b ∙ profile-same some j h)
+      ∙ profile-kept family text kept j n (omega (arith, lt, x .many))
 
   -- ---- the next block is one of profile c
 
   abbrev sheetDue : List Breach
   sheetDue = when (leb (endOf more) (blocksIn more)) (sheetRules more)
 
-  profile-due : 1 ≤ k → (c : ℕ) → Here text k c → firstBreach text .kind ≡ 0
-      → firstBreach more ≡ firstBroken (profileRules more c ++ sheetDue)
+  profile-due : 1 ≤ k → (c : ℕ) → Here text k c → firstBreach family text .kind ≡ 0
+      → firstBreach family more ≡ firstBroken (profileRules family more c ++ sheetDue)
   profile-due some c here kept =
-      let before = joined (map (begunRules more) (below c)) in
+      let before = joined (map (begunRules family more) (below c)) in
       let s = start-same text more block k x c (here .begins) in
       let over = not-over text more block k x some c here in
       let same = profiles-same some in
-      let b : begunRules more c ≡ profileRules more c
-      = asked (hasBegun more c) (profileRules more c)
+      let b : begunRules family more c ≡ profileRules family more c
+      = asked (hasBegun more c) (profileRules family more c)
       (lt-ltb (startOf more c) (blocksIn more) (omega (arith, s, here .begins, x .one-more))) in
-      let behind : (j : ℕ) → c < j → begunRules more j ≡ []
-      = λ j lt. unasked (hasBegun more j) (profileRules more j)
+      let behind : (j : ℕ) → c < j → begunRules family more j ≡ []
+      = λ j lt. unasked (hasBegun more j) (profileRules family more j)
       (le-ltb (startOf more j) (blocksIn more) (omega (arith, x .one-more, over, start-order more (suc c) j lt))) in
-      let all : joined (map (begunRules more) (below (profilesIn more))) ≡ before ++ profileRules more c
-      = ap (λ (n : ℕ). joined (map (begunRules more) (below n))) same
-      ∙ joined-until (begunRules more) c (profilesIn text) (here .below-n) behind
+      let all : joined (map (begunRules family more) (below (profilesIn more))) ≡ before ++ profileRules family more c
+      = ap (λ (n : ℕ). joined (map (begunRules family more) (below n))) same
+      ∙ joined-until (begunRules family more) c (profilesIn text) (here .below-n) behind
       ∙ ap (λ (l : List Breach). before ++ l) b in
       let late : k < endOf more
       = omega (arith, over, start-order more (suc c) (profilesIn more) (omega (arith, here .below-n, same))) in
@@ -243,17 +244,17 @@ module _ (text more block : List ℕ) (k : ℕ) (x : Extends text more block k) 
       (unasked (ltb (endOf more) (blocksIn more)) (endRules more)
       (le-ltb (endOf more) (blocksIn more) (omega (arith, late, x .one-more))))
       ∙ append-nil sheetDue in
-      past-kept (inBlock 0 (faultOf (blockAt more 0))) (behindA more) (record-a-kept some kept)
+      past-kept (inBlock 0 (faultOf family (blockAt more 0))) (behindA family more) (record-a-kept some kept)
       ∙ ap₂ (λ (l r : List Breach). firstBroken (l ++ r)) all last
-      ∙ past-these before (profileRules more c) sheetDue
-      (kept-all (begunRules more) 0 c
+      ∙ past-these before (profileRules family more c) sheetDue
+      (kept-all (begunRules family more) 0 c
       (λ j p q.
       whole-kept some kept j (omega (arith, q, here .below-n))
       (omega (arith, start-order text (suc j) c (omega (arith, q)), here .begins))))
 
   -- a further block: its own rules, and the closing
-  pub further-due : (some : 1 ≤ k) (c : ℕ) → Here text k c → firstBreach text .kind ≡ 0 → startOf text c < k
-      → firstBreach more ≡ firstBroken (blockRules more c (k - startOf text c) ++ closingDue more c)
+  pub further-due : (some : 1 ≤ k) (c : ℕ) → Here text k c → firstBreach family text .kind ≡ 0 → startOf text c < k
+      → firstBreach family more ≡ firstBroken (blockRules more c (k - startOf text c) ++ closingDue more c)
   further-due some c here kept lt =
       let m = k - startOf text c - 1 in
       let turn : suc m ≡ k - startOf text c = omega (arith, lt) in
@@ -263,15 +264,15 @@ module _ (text more block : List ℕ) (k : ℕ) (x : Extends text more block k) 
       let least : blocksIn more ≤ startOf more (suc c) = omega (arith, not-over text more block k x some c here, x .one-more) in
       let s = start-same text more block k x c (here .begins) in
       let begun : startOf text c < blocksIn text = omega (arith, lt, x .many) in
-      let fine : Kept (profileRules text c) = profile-kept text kept c (here .below-n) begun in
-      let head : headRule more c .kind ≡ 0
-      = ap (λ (b : Breach). b .kind) (head-rule-same c lt) ∙ first-kept (headRule text c) (behindHead text c) fine in
-      let rest : Kept (behindHead text c) = behind-kept (headRule text c) (behindHead text c) fine in
+      let fine : Kept (profileRules family text c) = profile-kept family text kept c (here .below-n) begun in
+      let head : headRule family more c .kind ≡ 0
+      = ap (λ (b : Breach). b .kind) (head-rule-same c lt) ∙ first-kept (headRule family text c) (behindHead text c) fine in
+      let rest : Kept (behindHead text c) = behind-kept (headRule family text c) (behindHead text c) fine in
       let first : Kept (blockRules more c 0)
       = ap (λ (l : List Breach). firstBroken l .kind) (block-same c 0 lt (omega (arith, lt)))
       ∙ kept-front (blockRules text c 0) (placeRules text c ++ behindPlace text c) rest in
       let place : Kept (placeRules more c)
-      = ap (λ (l : List Breach). firstBroken l .kind) (place-same some c lt) ∙ place-kept text kept c (here .below-n) begun in
+      = ap (λ (l : List Breach). firstBroken l .kind) (place-same some c lt) ∙ place-kept family text kept c (here .below-n) begun in
       let nt : blocksOf text c - 1 ≡ m
       = ap (λ (n : ℕ). n - 1) (open-blocks text c less) ∙ ap (λ (n : ℕ). n - startOf text c - 1) (x .many) in
       let nm : blocksOf more c - 1 ≡ suc m
@@ -292,38 +293,38 @@ module _ (text more block : List ℕ) (k : ℕ) (x : Extends text more block k) 
       let closing = when (isWhole more c) (closingRules more c) in
       profile-due some c here kept
       ∙ ap (λ (l : List Breach).
-      firstBroken (profileBy (headRule more c) (blockRules more c 0) (placeRules more c) l closing ++ sheetDue)) split
-      ∙ past-fine (headRule more c) (blockRules more c 0) (placeRules more c) (joined (map (furtherRules more c) (below m)))
+      firstBroken (profileBy (headRule family more c) (blockRules more c 0) (placeRules more c) l closing ++ sheetDue)) split
+      ∙ past-fine (headRule family more c) (blockRules more c 0) (placeRules more c) (joined (map (furtherRules more c) (below m)))
       (blockRules more c (k - startOf text c)) closing sheetDue head first place old
 
   -- a profile's first block: its head, its own rules, its place, and the closing
-  pub opening-due : (some : 1 ≤ k) (c : ℕ) → Here text k c → firstBreach text .kind ≡ 0 → startOf text c ≡ k
-      → firstBreach more
-      ≡ firstBroken (inBlock k (headFault (suc c) block) ∷ (blockRules more c 0 ++ (placeRules more c ++ closingDue more c)))
+  pub opening-due : (some : 1 ≤ k) (c : ℕ) → Here text k c → firstBreach family text .kind ≡ 0 → startOf text c ≡ k
+      → firstBreach family more
+      ≡ firstBroken (inBlock k (headFault family (suc c) block) ∷ (blockRules more c 0 ++ (placeRules more c ++ closingDue more c)))
   opening-due some c here kept at =
       let s : startOf more c ≡ k = start-same text more block k x c (here .begins) ∙ at in
       let closing = when (isWhole more c) (closingRules more c) in
-      let head : headRule more c ≡ inBlock k (headFault (suc c) block)
-      = ap₂ (λ (b : ℕ) (l : List ℕ). inBlock b (headFault (suc c) l)) s (ap (blockAt more) s ∙ x .next) in
+      let head : headRule family more c ≡ inBlock k (headFault family (suc c) block)
+      = ap₂ (λ (b : ℕ) (l : List ℕ). inBlock b (headFault family (suc c) l)) s (ap (blockAt more) s ∙ x .next) in
       let nm : blocksOf more c - 1 ≡ 0 = omega (arith, s, x .one-more) in
       profile-due some c here kept
       ∙ ap₂ (λ (h : Breach) (n : ℕ).
       let further = joined (map (furtherRules more c) (below n)) in
       firstBroken (profileBy h (blockRules more c 0) (placeRules more c) further closing ++ sheetDue)) head nm
-      ∙ ap (λ (l : List Breach). firstBroken (inBlock k (headFault (suc c) block) ∷ l))
+      ∙ ap (λ (l : List Breach). firstBroken (inBlock k (headFault family (suc c) block) ∷ l))
       (append-brackets (blockRules more c 0) (placeRules more c ++ closing) sheetDue
       ∙ ap (λ (l : List Breach). blockRules more c 0 ++ l) (append-brackets (placeRules more c) closing sheetDue))
 
   -- ---- the next block is behind the last profile
 
-  pub end-due : (some : 1 ≤ k) → firstBreach text .kind ≡ 0 → endOf text ≤ k
-      → firstBreach more
+  pub end-due : (some : 1 ≤ k) → firstBreach family text .kind ≡ 0 → endOf text ≤ k
+      → firstBreach family more
       ≡ firstBroken
       (rule (leb (suc k) (blocksOfSheet text)) (breach 4 (blocksOfSheet text) 0)
       ∷ (inBlock (endOf text) (recordC (blockAt more (endOf text))) ∷ []))
   end-due some kept over =
       let n = profilesIn text in
-      let profiles = joined (map (begunRules more) (below (profilesIn more))) in
+      let profiles = joined (map (begunRules family more) (below (profilesIn more))) in
       let same : profilesIn more ≡ n = profiles-same some in
       let e : endOf more ≡ endOf text = ap (startOf more) same ∙ start-same text more block k x n over in
       let whole : (j : ℕ) → j < n → startOf text (suc j) ≤ k
@@ -335,8 +336,8 @@ module _ (text more block : List ℕ) (k : ℕ) (x : Extends text more block k) 
       let sheet : sheetRules more ≡ sheetRules text = ap₂ sheetBy (header-same text more block k x some) all in
       let there : leb (endOf text) (blocksIn text) ≡ true = le-leb (endOf text) (blocksIn text) (omega (arith, over, x .many)) in
       let behind : Kept (lastRules text)
-      = kept-rest (joined (map (begunRules text) (below n))) (lastRules text)
-      (behind-kept (inBlock 0 (faultOf (blockAt text 0))) (behindA text) kept) in
+      = kept-rest (joined (map (begunRules family text) (below n))) (lastRules text)
+      (behind-kept (inBlock 0 (faultOf family (blockAt text 0))) (behindA family text) kept) in
       let due : sheetDue ≡ sheetRules more
       = asked (leb (endOf more) (blocksIn more)) (sheetRules more)
       (le-leb (endOf more) (blocksIn more) (omega (arith, e, over, x .one-more))) in
@@ -347,7 +348,7 @@ module _ (text more block : List ℕ) (k : ℕ) (x : Extends text more block k) 
       ∙ kept-front (when (leb (endOf text) (blocksIn text)) (sheetRules text))
       (when (ltb (endOf text) (blocksIn text)) (endRules text)) behind in
       let fine : Kept profiles
-      = kept-all (begunRules more) 0 (profilesIn more)
+      = kept-all (begunRules family more) 0 (profilesIn more)
       (λ j p q.
       let lt : j < n = omega (arith, q, same) in
       whole-kept some kept j lt (whole j lt)) in
@@ -356,7 +357,7 @@ module _ (text more block : List ℕ) (k : ℕ) (x : Extends text more block k) 
       (lt-ltb (endOf more) (blocksIn more) (omega (arith, e, over, x .one-more))) in
       let size : blocksOfSheet more ≡ blocksOfSheet text
       = ap₂ (λ (a : ℕ) (h : Header). a + cond (eqb (h .accuracy) 1) 1 0) e (header-same text more block k x some) in
-      past-kept (inBlock 0 (faultOf (blockAt more 0))) (behindA more) (record-a-kept some kept)
+      past-kept (inBlock 0 (faultOf family (blockAt more 0))) (behindA family more) (record-a-kept some kept)
       ∙ first-append profiles (lastRules more) fine
       ∙ first-append sheetDue (when (ltb (endOf more) (blocksIn more)) (endRules more)) sheet-fine
       ∙ ap firstBroken asks
@@ -368,29 +369,29 @@ module _ (text more block : List ℕ) (k : ℕ) (x : Extends text more block k) 
   first-block : k ≡ 0 → blockAt more 0 ≡ block
   first-block z = ap (blockAt more) (sym z) ∙ x .next
 
-  pub first-due-broken : k ≡ 0 → (faultOf block .kind ≡ 0 → ⊥) → firstBreach more ≡ inBlock 0 (faultOf block)
+  pub first-due-broken : k ≡ 0 → (faultOf family block .kind ≡ 0 → ⊥) → firstBreach family more ≡ inBlock 0 (faultOf family block)
   first-due-broken z bad =
       let e = first-block z in
-      at-broken (inBlock 0 (faultOf (blockAt more 0))) (behindA more)
-      (λ q. bad (ap (λ (l : List ℕ). faultOf l .kind) (sym e) ∙ q))
-      ∙ ap (λ (l : List ℕ). inBlock 0 (faultOf l)) e
+      at-broken (inBlock 0 (faultOf family (blockAt more 0))) (behindA family more)
+      (λ q. bad (ap (λ (l : List ℕ). faultOf family l .kind) (sym e) ∙ q))
+      ∙ ap (λ (l : List ℕ). inBlock 0 (faultOf family l)) e
 
   -- a record A without fault has a profile
-  a-profile : (b : List ℕ) → faultOf b .kind ≡ 0 → 1 ≤ headerOf b .profiles
-  unfolding recordA
+  a-profile : (b : List ℕ) → faultOf family b .kind ≡ 0 → 1 ≤ headerOf b .profiles
+  unfolding recordOf
   a-profile b h =
-      let read : recordA b ≡ Sheet (headerOf b) = rw (eq-eqb (faultOf b .kind) 0 h) in
-      header-facts (headerOf b) (sheet-obeys b (headerOf b) read) .profiles .least
+      let read : recordOf family b ≡ Sheet (headerOf b) = rw (eq-eqb (faultOf family b .kind) 0 h) in
+      family-facts family (headerOf b) (family-sheet-obeys family (fine-known family b h) b (headerOf b) read) .profiles .least
 
-  pub first-due-kept : k ≡ 0 → faultOf block .kind ≡ 0 → firstBreach more .kind ≡ 0
+  pub first-due-kept : k ≡ 0 → faultOf family block .kind ≡ 0 → firstBreach family more .kind ≡ 0
   first-due-kept z good =
-      let good0 : faultOf (blockAt more 0) .kind ≡ 0 = ap (λ (l : List ℕ). faultOf l .kind) (first-block z) ∙ good in
+      let good0 : faultOf family (blockAt more 0) .kind ≡ 0 = ap (λ (l : List ℕ). faultOf family l .kind) (first-block z) ∙ good in
       let some : 1 ≤ profilesIn more = a-profile (blockAt more 0) good0 in
       let one : blocksIn more ≡ 1 = omega (arith, x .one-more, z) in
-      let nothing : joined (map (begunRules more) (below (profilesIn more))) ≡ []
-      = joined-empty (begunRules more) 0 (profilesIn more)
+      let nothing : joined (map (begunRules family more) (below (profilesIn more))) ≡ []
+      = joined-empty (begunRules family more) 0 (profilesIn more)
       (λ j p.
-      unasked (hasBegun more j) (profileRules more j)
+      unasked (hasBegun more j) (profileRules family more j)
       (le-ltb (startOf more j) (blocksIn more) (omega (arith, one, start-from more j)))) in
       let late : 2 ≤ endOf more = omega (arith, some, start-from more (profilesIn more)) in
       let no-sheet : sheetDue ≡ []
@@ -400,6 +401,6 @@ module _ (text more block : List ℕ) (k : ℕ) (x : Extends text more block k) 
       = unasked (ltb (endOf more) (blocksIn more)) (endRules more)
       (le-ltb (endOf more) (blocksIn more) (omega (arith, one, late))) in
       ap (λ (b : Breach). b .kind)
-      (past-kept (inBlock 0 (faultOf (blockAt more 0))) (behindA more) good0
+      (past-kept (inBlock 0 (faultOf family (blockAt more 0))) (behindA family more) good0
       ∙ ap (λ (l : List Breach). firstBroken (l ++ lastRules more)) nothing
       ∙ ap₂ (λ (l r : List Breach). firstBroken (l ++ r)) no-sheet no-end)

@@ -8,6 +8,7 @@ use lib.IntN.{ℤ}
 use lib.ListN.{length}
 use borrow.Author.Tests.{ltb-false, le-ltb, eq-eqb, eqb-true, eqb-false}
 use lib.Dec.{ltb, eqb}
+use Rattle.laws.specs.Family.{known}
 use Rattle.ground.specs.Blocks.{blocksIn}
 use Rattle.ground.proofs.BlocksJoined.{Extends, join-extends}
 use Rattle.laws.proofs.Tests.{clash, by-test}
@@ -40,17 +41,17 @@ not-refused kind block byte e = let z : _≡_ {A = ℕ} 2 0 = ap codeOf e in abs
 
 -- ---- a complete sheet takes no block
 
-module _ (text : List ℕ) (lent : List ℤ) (good : Good text lent) (block : List ℕ) (one : length block ≡ 1024) (some : 1 ≤ blocksIn text) where
+module _ (family : ℕ) (text : List ℕ) (lent : List ℤ) (good : Good family text lent) (block : List ℕ) (one : length block ≡ 1024) (some : 1 ≤ blocksIn text) where
   joins : Extends text (text ++ block) block (blocksIn text)
   joins = join-extends text block (blocksIn text) (good .whole) one
 
-  pub complete-first : isComplete text ≡ true → firstBreach (text ++ block) ≡ breach 4 (blocksIn text) 0
+  pub complete-first : isComplete text ≡ true → firstBreach family (text ++ block) ≡ breach 4 (blocksIn text) 0
   complete-first i =
-      complete-breach text (text ++ block) block (blocksIn text) joins some (good .kept some)
-      (all-now text (text ++ block) block (blocksIn text) joins some (good .kept some)
-      (λ lt. clash (sym i ∙ incomplete text (text ++ block) block (blocksIn text) joins some (good .kept some) lt))) i
+      complete-breach family text (text ++ block) block (blocksIn text) joins some (good .kept some)
+      (all-now family text (text ++ block) block (blocksIn text) joins some (good .kept some)
+      (λ lt. clash (sym i ∙ incomplete family text (text ++ block) block (blocksIn text) joins some (good .kept some) lt))) i
 
-  not-complete : firstBreach (text ++ block) .kind ≡ 0 → isComplete text ≡ false
+  not-complete : firstBreach family (text ++ block) .kind ≡ 0 → isComplete text ≡ false
   not-complete kept =
       by-test (isComplete text)
       (λ i.
@@ -59,16 +60,16 @@ module _ (text : List ℕ) (lent : List ℤ) (good : Good text lent) (block : Li
 
 -- ---- taken exactly when
 
-module _ (text : List ℕ) (lent : List ℤ) (good : Good text lent) (d : Delivery) where
+module _ (family : ℕ) (text : List ℕ) (lent : List ℤ) (good : Good family text lent) (d : Delivery) where
   abbrev broken : Breach
-  broken = firstBreach (text ++ d .bytes)
+  broken = firstBreach family (text ++ d .bytes)
 
   abbrev short : Bool
   short = ltb (length lent) (cellsIn (text ++ d .bytes))
 
   -- past the tests of length and number
   next-number : length (d .bytes) ≡ 1024 → d .number ≡ blocksIn text
-      → answerTo text (d .number) (d .bytes) (roomOf (lend lent))
+      → answerTo family text (d .number) (d .bytes) (roomOf (lend lent))
       ≡ cond (eqb (d .number) 0) (refusedBy broken (cond short (Refused 12 0 0) Taken))
       (cond (isComplete text) (Refused 4 (d .number) 0) (cond short (Refused 12 (d .number) 0) (refusedBy broken Taken)))
   next-number one e =
@@ -79,7 +80,7 @@ module _ (text : List ℕ) (lent : List ℤ) (good : Good text lent) (d : Delive
       (cond (isComplete text) (Refused 4 (d .number) 0) (cond short (Refused 12 (d .number) 0) (refusedBy broken Taken))) in
       λ i. cond (not (l i)) (Refused 1 (d .number) 0) (cond (a i) Held (cond (b i) (Refused 3 (d .number) 0) rest))
 
-  pub due-taken : Due text lent d → answerTo text (d .number) (d .bytes) (roomOf (lend lent)) ≡ Taken
+  pub due-taken : Due family text lent d → answerTo family text (d .number) (d .bytes) (roomOf (lend lent)) ≡ Taken
   due-taken due =
       let k : eqb (broken .kind) 0 ≡ true = eq-eqb (broken .kind) 0 (due .kept) in
       let s : short ≡ false = le-ltb (length lent) (cellsIn (text ++ d .bytes)) (due .room) in
@@ -89,7 +90,7 @@ module _ (text : List ℕ) (lent : List ℤ) (good : Good text lent) (d : Delive
       (cond (isComplete text) (Refused 4 (d .number) 0) (cond short (Refused 12 (d .number) 0) (refusedBy broken Taken))))
       (λ z.
       let n = eqb-false (d .number) 0 z in
-      let c = not-complete text lent good (d .bytes) (due .block) (omega (arith, n, due .next)) (due .kept) in
+      let c = not-complete family text lent good (d .bytes) (due .block) (omega (arith, n, due .next)) (due .kept) in
       λ i. cond (z i) (refusedBy broken (cond short (Refused 12 0 0) Taken))
       (cond (c i) (Refused 4 (d .number) 0)
       (cond (s i) (Refused 12 (d .number) 0) (cond (k i) Taken (Refused (broken .kind) (broken .block) (broken .byte))))))
@@ -106,7 +107,7 @@ module _ (text : List ℕ) (lent : List ℤ) (good : Good text lent) (d : Delive
       go true z = (eqb-true (b .kind) 0 z, rw z at e)
       go false z = not-refused (b .kind) (b .block) (b .byte) (rw z at e)
 
-  pub taken-due : answerTo text (d .number) (d .bytes) (roomOf (lend lent)) ≡ Taken → Due text lent d
+  pub taken-due : answerTo family text (d .number) (d .bytes) (roomOf (lend lent)) ≡ Taken → Due family text lent d
   taken-due e =
       by-test (eqb (length (d .bytes)) 1024)
       (λ l.
@@ -147,12 +148,12 @@ module _ (text : List ℕ) (lent : List ℤ) (good : Good text lent) (d : Delive
       later-part = cond (ltb (d .number) (blocksIn text)) Held third-part
 
   -- a number that is not the next is not taken
-  pub late-not-taken : d .number < blocksIn text → answerTo text (d .number) (d .bytes) (roomOf (lend lent)) ≡ Taken → ⊥
+  pub late-not-taken : d .number < blocksIn text → answerTo family text (d .number) (d .bytes) (roomOf (lend lent)) ≡ Taken → ⊥
   late-not-taken lt e = omega (arith, lt, taken-due e .next)
 
   -- the next block with a grid long enough: the first rule that it breaks, or taken
   pub next-answer : length (d .bytes) ≡ 1024 → d .number ≡ blocksIn text → cellsIn (text ++ d .bytes) ≤ length lent
-      → answerTo text (d .number) (d .bytes) (roomOf (lend lent)) ≡ refusedBy broken Taken
+      → answerTo family text (d .number) (d .bytes) (roomOf (lend lent)) ≡ refusedBy broken Taken
   next-answer one e room =
       let s : short ≡ false = le-ltb (length lent) (cellsIn (text ++ d .bytes)) room in
       next-number one e
@@ -163,7 +164,7 @@ module _ (text : List ℕ) (lent : List ℤ) (good : Good text lent) (d : Delive
       let n = eqb-false (d .number) 0 z in
       by-test (isComplete text)
       (λ c.
-      let b : broken ≡ breach 4 (blocksIn text) 0 = complete-first text lent good (d .bytes) one (omega (arith, n, e)) c in
+      let b : broken ≡ breach 4 (blocksIn text) 0 = complete-first family text lent good (d .bytes) one (omega (arith, n, e)) c in
       (λ i. cond (z i) (refusedBy broken (cond short (Refused 12 0 0) Taken))
       (cond (c i) (Refused 4 (d .number) 0) (cond short (Refused 12 (d .number) 0) (refusedBy broken Taken))))
       ∙ ap (λ (m : ℕ). Refused 4 m 0) e
@@ -174,48 +175,49 @@ module _ (text : List ℕ) (lent : List ℤ) (good : Good text lent) (d : Delive
 
 -- ---- lists of deliveries
 
-pub stands-all : (text : List ℕ) (lent : List ℤ) (k : Desk) → Stands text lent k → (ds : List Delivery)
-    → Stands (text ++ textAfter k ds) lent (afterAll k ds)
-stands-all text lent k at [] = rw (append-nil text) at
-stands-all text lent k at (d ∷ ds) =
+pub stands-all : (family : ℕ) (text : List ℕ) (lent : List ℤ) (k : Desk) → Stands family text lent k → (ds : List Delivery)
+    → Stands family (text ++ textAfter k ds) lent (afterAll k ds)
+stands-all family text lent k at [] = rw (append-nil text) at
+stands-all family text lent k at (d ∷ ds) =
     let bytes = bytesIf (answered k d) (d .bytes) in
     rw (← append-brackets text bytes (textAfter (after k d) ds))
-    (stands-all (text ++ bytes) lent (after k d) (stands-next text lent k at d) ds)
+    (stands-all family (text ++ bytes) lent (after k d) (stands-next family text lent k at d) ds)
 
-pub stands-after : (lent : List ℤ) (ds : List Delivery) → Stands (textAfter (atFirst lent) ds) lent (afterAll (atFirst lent) ds)
-stands-after lent ds = stands-all [] lent (atFirst lent) (stands-first lent) ds
+pub stands-after : (family : ℕ) → known family ≡ true → (lent : List ℤ) (ds : List Delivery)
+    → Stands family (textAfter (atFirst family lent) ds) lent (afterAll (atFirst family lent) ds)
+stands-after family known lent ds = stands-all family [] lent (atFirst family lent) (stands-first family known lent) ds
 
 pub after-append : (k : Desk) (ds es : List Delivery) → afterAll k (ds ++ es) ≡ afterAll (afterAll k ds) es
 after-append k [] es = refl
 after-append k (d ∷ ds) es = after-append (after k d) ds es
 
 -- a block just taken is not taken again
-pub second-nothing : (text : List ℕ) (lent : List ℤ) (k : Desk) → Stands text lent k → (d : Delivery)
+pub second-nothing : (family : ℕ) (text : List ℕ) (lent : List ℤ) (k : Desk) → Stands family text lent k → (d : Delivery)
     → after (after k d) d ≡ after k d
-second-nothing text lent k at d = go (answered k d) refl
+second-nothing family text lent k at d = go (answered k d) refl
   where
     go : (a : Answer) → answered k d ≡ a → after (after k d) d ≡ after k d
     go Taken e =
-        let due = taken-due text lent (at .good) d (sym (answer-told text lent k at d) ∙ e) in
+        let due = taken-due family text lent (at .good) d (sym (answer-told family text lent k at d) ∙ e) in
         let more = text ++ bytesIf (answered k d) (d .bytes) in
-        let then = stands-next text lent k at d in
+        let then = stands-next family text lent k at d in
         let x = join-extends text (d .bytes) (blocksIn text) (at .good .whole) (due .block) in
         let b : blocksIn more ≡ suc (blocksIn text) = ap (λ (w : Answer). blocksIn (text ++ bytesIf w (d .bytes))) e ∙ x .one-more in
         not-taken-nothing (after k d) d
         (λ t.
-        late-not-taken more lent (then .good) d (omega (arith, b, due .next))
-        (sym (answer-told more lent (after k d) then d) ∙ t))
+        late-not-taken family more lent (then .good) d (omega (arith, b, due .next))
+        (sym (answer-told family more lent (after k d) then d) ∙ t))
     go Held e =
         let n = not-taken-nothing k d (λ t. not-held (sym e ∙ t)) in ap (λ (w : Desk). after w d) n
     go (Refused kind block byte) e =
         let n = not-taken-nothing k d (λ t. not-refused kind block byte (sym e ∙ t)) in ap (λ (w : Desk). after w d) n
 
-pub twice-once : (text : List ℕ) (lent : List ℤ) (k : Desk) → Stands text lent k → (ds : List Delivery)
+pub twice-once : (family : ℕ) (text : List ℕ) (lent : List ℤ) (k : Desk) → Stands family text lent k → (ds : List Delivery)
     → afterAll k (twice ds) ≡ afterAll k ds
-twice-once text lent k at [] = refl
-twice-once text lent k at (d ∷ ds) =
-    ap (λ (w : Desk). afterAll w (twice ds)) (second-nothing text lent k at d)
-    ∙ twice-once (text ++ bytesIf (answered k d) (d .bytes)) lent (after k d) (stands-next text lent k at d) ds
+twice-once family text lent k at [] = refl
+twice-once family text lent k at (d ∷ ds) =
+    ap (λ (w : Desk). afterAll w (twice ds)) (second-nothing family text lent k at d)
+    ∙ twice-once family (text ++ bytesIf (answered k d) (d .bytes)) lent (after k d) (stands-next family text lent k at d) ds
 
 pub disturbed-same : {s : Session} {lent : Lent} {es : List Call} {ds : List Delivery} → Calls s lent es → Disturbed es ds
     → afterAll (desk s lent) (deliveries es) ≡ afterAll (desk s lent) ds

@@ -29,8 +29,8 @@ use Rattle.meaning.proofs.Joined.{Here, header-same, same-start, not-ov
 use Rattle.meaning.proofs.Counted.{counted-on}
 
 -- the session of a text by how many of its profiles are closed, and the one after them
-abbrev sessionBy : List ℕ → ℕ → Profile → Session
-sessionBy text closed profile =
+abbrev sessionBy : ℕ → List ℕ → ℕ → Profile → Session
+sessionBy family text closed profile =
     record {
       header = headerIn text;
       taken = blocksIn text;
@@ -43,11 +43,12 @@ sessionBy text closed profile =
       finished = 0;
       profile = profile;
       sum = sumOf (filledOnly (allHeights text));
+      family = family;
     }
 
 -- profile c is still open
-abbrev pub openSession : List ℕ → ℕ → Session
-openSession text c = sessionBy text c (openProfile text c)
+abbrev pub openSession : ℕ → List ℕ → ℕ → Session
+openSession family text c = sessionBy family text c (openProfile text c)
 
 -- profile c of the longer text, with the posts that the shorter one has
 abbrev pub readSoFar : List ℕ → List ℕ → ℕ → Profile
@@ -64,7 +65,7 @@ readSoFar text more c =
       high = greatestOf (filledOnly (heightsIn text c));
     }
 
-module _ (text more block : List ℕ) (k : ℕ) (x : Extends text more block k) (some : 1 ≤ k) (c : ℕ) (here : Here text k c) where
+module _ (family : ℕ) (text more block : List ℕ) (k : ℕ) (x : Extends text more block k) (some : 1 ≤ k) (c : ℕ) (here : Here text k c) where
   pub new-length : length (newHeights text more block k x some c here) ≡ postsOfBlock (headIn more c .posts) (k - startOf text c)
   new-length =
       let n = postsOfBlock (headIn more c .posts) (k - startOf text c) in
@@ -80,7 +81,7 @@ module _ (text more block : List ℕ) (k : ℕ) (x : Extends text more block k) 
       (λ lt. omega (arith, here .ends, x .many))
       (omega (arith, x .many, some))
 
-  unfinished : begunSession text .finished ≡ 0
+  unfinished : begunSession family text .finished ≡ 0
   unfinished =
       let e : ltb (endOf text) (blocksIn text) ≡ false
       = le-ltb (endOf text) (blocksIn text)
@@ -107,8 +108,8 @@ module _ (text more block : List ℕ) (k : ℕ) (x : Extends text more block k) 
         high = (ap (λ u. u .high) t ∙ ap (λ (l : List ℤ). greatestOf (filledOnly l)) (sym g)) i;
       }
 
-  pub session-filled : filledSession (begunSession text) (columnIn more 0) (readSoFar text more c) (newHeights text more block k x some c here)
-      ≡ openSession more c
+  pub session-filled : filledSession (begunSession family text) (columnIn more 0) (readSoFar text more c) (newHeights text more block k x some c here)
+      ≡ openSession family more c
   session-filled =
       let hs = newHeights text more block k x some c here in
       let g = all-grow text more block k x some c here in
@@ -127,6 +128,7 @@ module _ (text more block : List ℕ) (k : ℕ) (x : Extends text more block k) 
         finished = unfinished i;
         profile = profile-read i;
         sum = (sym (sum-on (allHeights text) hs) ∙ ap (λ (l : List ℤ). sumOf (filledOnly l)) (sym g)) i;
+        family = family;
       }
 
   -- ---- whether the block is the profile's last
@@ -158,15 +160,15 @@ module _ (text more block : List ℕ) (k : ℕ) (x : Extends text more block k) 
       let le = ltb-false (blocksIn more) (startOf more (suc c)) t in
       le-ltb (postsIn text c + length hs) m (omega (arith, r, le, e)) ∙ sym t)
 
-  grown : (closed : ℕ) (profile : Profile) → closed ≡ closedIn more → begunSession more .profile ≡ profile
-      → blocksIn more ≤ startOf more (suc c) → begunSession more ≡ sessionBy more closed profile
+  grown : (closed : ℕ) (profile : Profile) → closed ≡ closedIn more → begunSession family more .profile ≡ profile
+      → blocksIn more ≤ startOf more (suc c) → begunSession family more ≡ sessionBy family more closed profile
   grown closed profile n p le =
       let col : ltb 1 (blocksIn more) ≡ true = lt-ltb 1 (blocksIn more) (omega (arith, x .one-more, some)) in
       let fin : ltb (endOf more) (blocksIn more) ≡ false
       = le-ltb (endOf more) (blocksIn more)
       (omega (arith, le, start-order more (suc c) (profilesIn more) (omega (arith, here .below-n, same-n)))) in
-      let w : begunSession more .column ≡ columnIn more 0 = rw col in
-      let f : begunSession more .finished ≡ 0 = rw fin in
+      let w : begunSession family more .column ≡ columnIn more 0 = rw col in
+      let f : begunSession family more .finished ≡ 0 = rw fin in
       λ i.
       record {
         header = headerIn more;
@@ -180,6 +182,7 @@ module _ (text more block : List ℕ) (k : ℕ) (x : Extends text more block k) 
         finished = f i;
         profile = p i;
         sum = sumOf (filledOnly (allHeights more));
+        family = family;
       }
 
   module _ (left : blocksIn more < startOf more (suc c)) where
@@ -197,9 +200,9 @@ module _ (text more block : List ℕ) (k : ℕ) (x : Extends text more block k) 
         = lt-ltb (startOf more c) (blocksIn more) (omega (arith, same-start text more block k x some c here, here .begins, x .one-more)) in
         rw (still-closed, a, b)
 
-    pub session-open : openSession more c ≡ begunSession more
+    pub session-open : openSession family more c ≡ begunSession family more
     session-open =
-        let p : begunSession more .profile ≡ openProfile more c = rw (still-open, still-closed) in
+        let p : begunSession family more .profile ≡ openProfile more c = rw (still-open, still-closed) in
         sym (grown c (openProfile more c) (sym still-closed) p (omega (arith, left)))
 
   module _ (over : startOf more (suc c) ≤ blocksIn more) where
@@ -217,8 +220,8 @@ module _ (text more block : List ℕ) (k : ℕ) (x : Extends text more block k) 
         let b : ltb (startOf more (suc c)) (blocksIn more) ≡ false = le-ltb (startOf more (suc c)) (blocksIn more) (omega (arith, exactly)) in
         by-test (ltb (suc c) (profilesIn more)) (λ e. rw (now-closed, e, b)) (λ e. rw (now-closed, e))
 
-    pub session-closed : closedSession (openSession more c) ≡ begunSession more
+    pub session-closed : closedSession (openSession family more c) ≡ begunSession family more
     session-closed =
         let n : c + 1 ≡ closedIn more = (omega arith) ∙ sym now-closed in
-        let p : begunSession more .profile ≡ noProfile = rw now-idle in
+        let p : begunSession family more .profile ≡ noProfile = rw now-idle in
         sym (grown (c + 1) noProfile n p (omega (arith, exactly)))

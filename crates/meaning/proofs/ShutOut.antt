@@ -43,12 +43,12 @@ oneTaken s = eqb (s .taken) 1
 
 -- ---- calls that deliver the paper's three blocks
 
-module _ (cs : List Call) (kept : Fresh paperLent cs) (paper : deliveries cs ≡ paperSheet) where
+module _ (cs : List Call) (kept : Fresh 0 paperLent cs) (paper : deliveries cs ≡ paperSheet) where
   pub all-taken : answers cs ≡ Taken ∷ Taken ∷ Taken ∷ []
-  all-taken = calls-answers kept ∙ ap (allAnswered (atFirst paperLent)) paper ∙ paper-answers
+  all-taken = calls-answers kept ∙ ap (allAnswered (atFirst 0 paperLent)) paper ∙ paper-answers
 
   at-the-end : desk (sessionAfter fresh cs) (lend (gridAfter paperLent cs)) ≡ desk paperSession (lend paperCells)
-  at-the-end = calls-desk kept ∙ ap (afterAll (atFirst paperLent)) paper ∙ paper-desk
+  at-the-end = calls-desk kept ∙ ap (afterAll (atFirst 0 paperLent)) paper ∙ paper-desk
 
   pub session-is : sessionAfter fresh cs ≡ paperSession
   session-is = ap (λ (k : Desk). k .session) at-the-end
@@ -69,14 +69,14 @@ abbrev firstOr : List Delivery → Delivery
 firstOr [] = block0
 firstOr (d ∷ ds) = d
 
-module _ (c : Call) (cs : List Call) (kept : Fresh paperLent (c ∷ cs)) (paper : deliveries (c ∷ cs) ≡ paperSheet) where
+module _ (c : Call) (cs : List Call) (kept : Fresh 0 paperLent (c ∷ cs)) (paper : deliveries (c ∷ cs) ≡ paperSheet) where
   first-is : c .sent ≡ block0
   first-is = ap firstOr paper
 
-  first-desk : desk (c .returned .session) (c .left) ≡ after (atFirst paperLent) (c .sent)
+  first-desk : desk (c .returned .session) (c .left) ≡ after (atFirst 0 paperLent) (c .sent)
   first-desk = go kept
     where
-      go : Calls fresh (lend paperLent) (c ∷ cs) → desk (c .returned .session) (c .left) ≡ after (atFirst paperLent) (c .sent)
+      go : Calls fresh (lend paperLent) (c ∷ cs) → desk (c .returned .session) (c .left) ≡ after (atFirst 0 paperLent) (c .sent)
       go (called p rest) = call-desk p
 
   -- takes blocks and places nothing: the grid stays as block 0 left it
@@ -84,7 +84,7 @@ module _ (c : Call) (cs : List Call) (kept : Fresh paperLent (c ∷ cs)) (paper 
   places-what-it-takes idle =
       clash
       (ap southwestVoid
-      (sym (ap (λ (k : Desk). k .lent .grid) (first-desk ∙ ap (after (atFirst paperLent)) first-is ∙ after-block0))
+      (sym (ap (λ (k : Desk). k .lent .grid) (first-desk ∙ ap (after (atFirst 0 paperLent)) first-is ∙ after-block0))
       ∙ sym idle
       ∙ cells-are (c ∷ cs) kept paper))
 
@@ -93,6 +93,6 @@ module _ (c : Call) (cs : List Call) (kept : Fresh paperLent (c ∷ cs)) (paper 
   works-after-first idle =
       clash
       (ap oneTaken
-      (sym (ap (λ (k : Desk). k .session) (first-desk ∙ ap (after (atFirst paperLent)) first-is ∙ after-block0))
+      (sym (ap (λ (k : Desk). k .session) (first-desk ∙ ap (after (atFirst 0 paperLent)) first-is ∙ after-block0))
       ∙ sym idle
       ∙ session-is (c ∷ cs) kept paper))

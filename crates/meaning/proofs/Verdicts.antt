@@ -58,64 +58,64 @@ close-order true true true true false block v = refl
 close-order true true true true true block v = refl
 
 -- the closing rules of a profile and, with the last one, of the sheet
-close-rules : (text : List ℕ) (c block : ℕ) (v : Verdict) → block ≡ startOf text c
-    → closeVerdict (closeFault block (openSession text c)) v
+close-rules : (family : ℕ) (text : List ℕ) (c block : ℕ) (v : Verdict) → block ≡ startOf text c
+    → closeVerdict (closeFault block (openSession family text c)) v
     ≡ byBreach (firstBroken (closingRules text c ++ when (eqb (c + 1) (profilesIn text)) (sheetRules text))) v
-close-rules text c block v e =
+close-rules family text c block v e =
     rw (e, stated-least (heightsIn text c), stated-greatest (heightsIn text c), stated-least (allHeights text), stated-greatest (allHeights text))
     (close-order (sameZ (headIn text c .least) (leastStated (heightsIn text c)))
     (sameZ (headIn text c .greatest) (greatestStated (heightsIn text c))) (eqb (c + 1) (profilesIn text))
     (sameZ (headerIn text .least) (leastStated (allHeights text))) (sameZ (headerIn text .greatest) (greatestStated (allHeights text)))
     (startOf text c) v)
 
-module _ (text more block : List ℕ) (k : ℕ) (x : Extends text more block k) (some : 1 ≤ k) (c : ℕ) (here : Here text k c) where
+module _ (family : ℕ) (text more block : List ℕ) (k : ℕ) (x : Extends text more block k) (some : 1 ≤ k) (c : ℕ) (here : Here text k c) where
   -- the profile's first block behind the others: none is open
-  pub idle-profile : startOf text c ≡ k → begunSession text .profile ≡ noProfile
+  pub idle-profile : startOf text c ≡ k → begunSession family text .profile ≡ noProfile
   idle-profile e =
       let a : ltb c (profilesIn text) ≡ true = lt-ltb c (profilesIn text) (here .below-n) in
       let b : ltb (startOf text c) (blocksIn text) ≡ false = le-ltb (startOf text c) (blocksIn text) (omega (arith, e, x .many)) in
-      let o : isOpen text ≡ false = rw (closed-here text more block k x some c here, a, b) in
+      let o : isOpen text ≡ false = rw (closed-here family text more block k x some c here, a, b) in
       rw o
 
-  pub busy-profile : startOf text c < k → begunSession text .profile ≡ openProfile text c
+  pub busy-profile : startOf text c < k → begunSession family text .profile ≡ openProfile text c
   busy-profile lt =
       let a : ltb c (profilesIn text) ≡ true = lt-ltb c (profilesIn text) (here .below-n) in
       let b : ltb (startOf text c) (blocksIn text) ≡ true = lt-ltb (startOf text c) (blocksIn text) (omega (arith, lt, x .many)) in
-      let o : isOpen text ≡ true = rw (closed-here text more block k x some c here, a, b) in
-      rw (o, closed-here text more block k x some c here)
+      let o : isOpen text ≡ true = rw (closed-here family text more block k x some c here, a, b) in
+      rw (o, closed-here family text more block k x some c here)
 
-  pub is-idle : startOf text c ≡ k → busy (begunSession text) ≡ false
+  pub is-idle : startOf text c ≡ k → busy (begunSession family text) ≡ false
   is-idle e = ap (λ (p : Profile). not (eqb (p .posts) 0)) (idle-profile e)
 
-  pub is-busy : startOf text c < k → busy (begunSession text) ≡ true
+  pub is-busy : startOf text c < k → busy (begunSession family text) ≡ true
   is-busy lt =
       let n : eqb (headIn text c .posts) 0 ≡ false = ne-eqb (headIn text c .posts) 0 (λ z. omega (arith, z, here .ends, lt)) in
       ap (λ (p : Profile). not (eqb (p .posts) 0)) (busy-profile lt) ∙ ap not n
 
   -- the profile's first block, told from the blocks that it has
-  pub first-block : k - openBlocks (begunSession text) ≡ startOf more c
+  pub first-block : k - openBlocks (begunSession family text) ≡ startOf more c
   first-block =
       by-test (ltb (startOf text c) k)
       (λ t.
       let lt = ltb-true (startOf text c) k t in
-      let r : begunSession text .profile .read ≡ postsIn text c = ap (λ (p : Profile). p .read) (busy-profile lt) in
-      let o : openBlocks (begunSession text) ≡ (begunSession text .profile .read - 146) / 170 + 1 = rw (is-busy lt) in
-      omega (arith, o, r, read-is text more block k x some c here lt, same-start text more block k x some c here, lt))
+      let r : begunSession family text .profile .read ≡ postsIn text c = ap (λ (p : Profile). p .read) (busy-profile lt) in
+      let o : openBlocks (begunSession family text) ≡ (begunSession family text .profile .read - 146) / 170 + 1 = rw (is-busy lt) in
+      omega (arith, o, r, read-is family text more block k x some c here lt, same-start text more block k x some c here, lt))
       (λ t.
       let e : startOf text c ≡ k = omega (arith, ltb-false (startOf text c) k t, here .begins) in
-      let o : openBlocks (begunSession text) ≡ 0 = rw (is-idle e) in
+      let o : openBlocks (begunSession family text) ≡ 0 = rw (is-idle e) in
       omega (arith, o, same-start text more block k x some c here, e))
 
   -- the block's posts placed, and the profile closed with its last
   pub filling-rules :
-      let s = begunSession text in
+      let s = begunSession family text in
       let p = readSoFar text more c in
       let hs = newHeights text more block k x some c here in
       filling s k (columnIn more 0) p hs
       ≡ byBreach (firstBroken (when (isWhole more c) (closingRules more c) ++ when (leb (endOf more) (blocksIn more)) (sheetRules more)))
-      (fills (begunSession more) (nextCell s (columnIn more 0) p) hs)
+      (fills (begunSession family more) (nextCell s (columnIn more 0) p) hs)
   filling-rules =
-      let s = begunSession text in
+      let s = begunSession family text in
       let p = readSoFar text more c in
       let hs = newHeights text more block k x some c here in
       let at = nextCell s (columnIn more 0) p in
@@ -123,7 +123,7 @@ module _ (text more block : List ℕ) (k : ℕ) (x : Extends text more block k) 
       ap₂
       (λ (b : Bool) (z : Session).
       cond b (fills z at hs) (closeVerdict (closeFault (k - openBlocks s) z) (fills (closedSession z) at hs)))
-      (last-or-not text more block k x some c here) (session-filled text more block k x some c here)
+      (last-or-not family text more block k x some c here) (session-filled family text more block k x some c here)
       ∙ (by-test (ltb (blocksIn more) (startOf more (suc c)))
       (λ t.
       let lt = ltb-true (blocksIn more) (startOf more (suc c)) t in
@@ -131,15 +131,15 @@ module _ (text more block : List ℕ) (k : ℕ) (x : Extends text more block k) 
       let l : leb (endOf more) (blocksIn more) ≡ false
       = lt-leb (endOf more) (blocksIn more)
       (omega (arith, lt, start-order more (suc c) (profilesIn more) (omega (arith, n, here .below-n)))) in
-      rw (t, w, l) (ap (λ (z : Session). fills z at hs) (session-open text more block k x some c here lt)))
+      rw (t, w, l) (ap (λ (z : Session). fills z at hs) (session-open family text more block k x some c here lt)))
       (λ t.
       let le = ltb-false (blocksIn more) (startOf more (suc c)) t in
-      let ex = exactly text more block k x some c here le in
+      let ex = exactly family text more block k x some c here le in
       let w : isWhole more c ≡ true = le-leb (startOf more (suc c)) (blocksIn more) le in
       let l : leb (endOf more) (blocksIn more) ≡ eqb (c + 1) (profilesIn more) = last-profile n ex in
       rw (t, w, l)
-      (ap (λ (z : Session). closeVerdict (closeFault (k - openBlocks s) (openSession more c)) (fills z at hs)) (session-closed text more block k x some c here le)
-      ∙ close-rules more c (k - openBlocks s) (fills (begunSession more) at hs) first-block)))
+      (ap (λ (z : Session). closeVerdict (closeFault (k - openBlocks s) (openSession family more c)) (fills z at hs)) (session-closed family text more block k x some c here le)
+      ∙ close-rules family more c (k - openBlocks s) (fills (begunSession family more) at hs) first-block)))
     where
       last-profile : profilesIn more ≡ profilesIn text → startOf more (suc c) ≡ blocksIn more
           → leb (endOf more) (blocksIn more) ≡ eqb (c + 1) (profilesIn more)

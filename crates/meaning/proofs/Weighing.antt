@@ -122,7 +122,7 @@ module _ (w : ℤ → ℕ) where
   weightless-profile : (text : List ℕ) (j : ℕ) → postsIn text j ≡ 0 → weighed w (heightsIn text j) ≡ 0
   weightless-profile text j none = weighed-map (heightIn text j) 0 (postsIn text j) ∙ ap (total (λ i. weight w (heightIn text j i)) 0) none
 
-  module _ (text : List ℕ) (kept : firstBreach text .kind ≡ 0) where
+  module _ (family : ℕ) (text : List ℕ) (kept : firstBreach family text .kind ≡ 0) where
     -- the cells of its column weigh what the posts of the profile do
     profile-column : (j : ℕ) → j < profilesIn text → weighedColumn text (columnIn text 0 + j) ≡ weighed w (heightsIn text j)
     profile-column j h = by-test (ltb (startOf text j) (blocksIn text)) begun unbegun
@@ -138,7 +138,7 @@ module _ (w : ℤ → ℕ) where
 
         begun : ltb (startOf text j) (blocksIn text) ≡ true → total cells 0 (rowsIn text) ≡ weighed w (heightsIn text j)
         begun e =
-            let p = placed-at text kept j h (ltb-true (startOf text j) (blocksIn text) e) in
+            let p = placed-at family text kept j h (ltb-true (startOf text j) (blocksIn text) e) in
             let row = rowIn text j in
             let posts = postsIn text j in
             let rest = rowsIn text - (row + posts) in
@@ -181,7 +181,7 @@ module _ (w : ℤ → ℕ) where
         begun : ltb (startOf text 0) (blocksIn text) ≡ true
             → total (weighedColumn text) 0 (columnsIn text) ≡ total heights 0 (profilesIn text)
         begun e =
-            let p = placed-at text kept 0 (some-profiles text kept) (ltb-true (startOf text 0) (blocksIn text) e) in
+            let p = placed-at family text kept 0 (some-profiles family text kept) (ltb-true (startOf text 0) (blocksIn text) e) in
             let west = columnIn text 0 in
             let n = profilesIn text in
             let rest = columnsIn text - (west + n) in
@@ -221,7 +221,7 @@ module _ (w : ℤ → ℕ) where
 
 -- ---- the count and the sum, by their weights
 
-module _ (text : List ℕ) (kept : firstBreach text .kind ≡ 0) (lent : List ℤ) (some : 1 ≤ blocksIn text) where
+module _ (family : ℕ) (text : List ℕ) (kept : firstBreach family text .kind ≡ 0) (lent : List ℤ) (some : 1 ≤ blocksIn text) where
   -- the cells of the sheet
   abbrev cells : List ℤ
   cells = take (cellsIn text) (gridOf text lent)
@@ -229,9 +229,9 @@ module _ (text : List ℕ) (kept : firstBreach text .kind ≡ 0) (lent : List �
   -- As many cells of the sheet are filled as posts of the text are.
   pub filled-as-posts : filledIn cells ≡ filledIn (allHeights text)
   filled-as-posts =
-      filled-weighed cells ∙ weighed-as-posts (λ h. 1) text kept lent some ∙ sym (filled-weighed (allHeights text))
+      filled-weighed cells ∙ weighed-as-posts (λ h. 1) family text kept lent some ∙ sym (filled-weighed (allHeights text))
 
   -- The filled cells of the sheet sum up to what the filled posts of the text do.
   pub sum-as-posts : sumOf (filledOnly cells) ≡ sumOf (filledOnly (allHeights text))
   sum-as-posts =
-      same-sum cells (allHeights text) (weighed-as-posts above text kept lent some) (weighed-as-posts under text kept lent some)
+      same-sum cells (allHeights text) (weighed-as-posts above family text kept lent some) (weighed-as-posts under family text kept lent some)

@@ -8,7 +8,7 @@ use Rattle.number.specs.Integer.{integer}
 use Rattle.number.specs.Real.{real, billionths}
 use Rattle.lattice.specs.Lattice.{latticeOf, placeOf}
 use Rattle.heading.specs.Heading.{headerOf}
-use Rattle.sheet.specs.RecordA.{recordA, fields}
+use Rattle.sheet.specs.RecordA.{recordOf, usgsFront, back}
 use Rattle.profile.specs.RecordB.{recordB}
 use Rattle.session.specs.Session.{begun, noProfile, fresh, sound}
 use Rattle.ground.specs.Posts.{void}
@@ -24,7 +24,7 @@ use Rattle.meaning.specs.PaperSheet.{paperHeader, paperA, profile1, prof
 -- block 0 sets the sheet's six cells void
 abbrev pub desk1 : Desk
 desk1 =
-    record { session = begun paperHeader; lent = lend (void ∷ void ∷ void ∷ void ∷ void ∷ void ∷ pos 7 ∷ []) }
+    record { session = begun 0 paperHeader; lent = lend (void ∷ void ∷ void ∷ void ∷ void ∷ void ∷ pos 7 ∷ []) }
 
 -- profile 1 fills the western column
 abbrev pub desk2 : Desk
@@ -43,6 +43,7 @@ desk2 =
             finished = 0;
             profile = noProfile;
             sum = pos 2200;
+            family = 0;
           };
       lent = lend (pos 1000 ∷ void ∷ pos 1200 ∷ void ∷ void ∷ void ∷ pos 7 ∷ []);
     }
@@ -62,7 +63,7 @@ abbrev eastern : List ℤ
 eastern = pos 1100 ∷ pos 900 ∷ []
 
 verdict0 : verdictOf fresh 0 paperA (record { cells = 7 }) ≡ begins paperHeader
-unfolding verdictOf sound recordA fields headerOf latticeOf integer real billionths places short paperA
+unfolding verdictOf sound recordOf usgsFront back headerOf latticeOf integer real billionths places short paperA
 verdict0 = refl
 
 verdict1 : verdictOf (desk1 .session) 1 profile1 (record { cells = 7 }) ≡ fills (desk2 .session) 0 western
@@ -75,12 +76,12 @@ verdict2 = refl
 
 -- ---- delivered
 
-pub block0-taken : answered (atFirst paperLent) block0 ≡ Taken
+pub block0-taken : answered (atFirst 0 paperLent) block0 ≡ Taken
 block0-taken = ap (λ (v : Verdict). answerOf fresh v .answer) verdict0
 
-pub after-block0 : after (atFirst paperLent) block0 ≡ desk1
+pub after-block0 : after (atFirst 0 paperLent) block0 ≡ desk1
 unfolding latticeOf
-after-block0 = by-verdict (atFirst paperLent) block0 (begins paperHeader) verdict0
+after-block0 = by-verdict (atFirst 0 paperLent) block0 (begins paperHeader) verdict0
 
 pub after-block1 : after desk1 block1 ≡ desk2
 after-block1 = by-verdict desk1 block1 (fills (desk2 .session) 0 western) verdict1
@@ -89,14 +90,14 @@ pub after-block2 : after desk2 block2 ≡ desk paperSession (lend paperCells)
 after-block2 = by-verdict desk2 block2 (fills paperSession 4 eastern) verdict2
 
 -- each of the three blocks is taken, in turn
-pub paper-answers : allAnswered (atFirst paperLent) paperSheet ≡ Taken ∷ Taken ∷ Taken ∷ []
+pub paper-answers : allAnswered (atFirst 0 paperLent) paperSheet ≡ Taken ∷ Taken ∷ Taken ∷ []
 paper-answers =
     ap₂ (λ (a : Answer) (k : Desk). a ∷ allAnswered k (block1 ∷ block2 ∷ [])) block0-taken after-block0
     ∙ ap₂ (λ (v : Verdict) (k : Desk). Taken ∷ answerOf (desk1 .session) v .answer ∷ allAnswered k (block2 ∷ [])) verdict1 after-block1
     ∙ ap (λ (v : Verdict). Taken ∷ Taken ∷ answerOf (desk2 .session) v .answer ∷ []) verdict2
 
 -- the session and the cells afterwards
-pub paper-desk : afterAll (atFirst paperLent) paperSheet ≡ desk paperSession (lend paperCells)
+pub paper-desk : afterAll (atFirst 0 paperLent) paperSheet ≡ desk paperSession (lend paperCells)
 paper-desk =
     ap (λ (k : Desk). afterAll k (block1 ∷ block2 ∷ [])) after-block0
     ∙ ap (λ (k : Desk). afterAll k (block2 ∷ [])) after-block1

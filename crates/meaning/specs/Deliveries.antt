@@ -9,7 +9,7 @@ use mathlib.Core.Path.{_≡_}
 use Rattle.ground.specs.Blocks.{blocksIn}
 use Rattle.ground.specs.Posts.{void}
 use Rattle.session.specs.declared.Session.{Session}
-use Rattle.session.specs.Session.{fresh}
+use Rattle.session.specs.Session.{opened}
 use Rattle.delivery.specs.declared.Answer.{Answer}
 use Rattle.delivery.specs.declared.Answer.the-variants.{Refused, Taken, Held}
 use Rattle.delivery.specs.declared.Delivered.{Delivered}
@@ -21,10 +21,10 @@ use Rattle.meaning.specs.Text.{cellsIn, headerIn}
 abbrev pub refusedBy : Breach → Answer → Answer
 refusedBy b otherwise = cond (eqb (b .kind) 0) otherwise (Refused (b .kind) (b .block) (b .byte))
 
--- what a delivery is answered once the blocks of a text are taken, with so much lent: the paper's table, in its order
-abbrev pub answerTo : List ℕ → ℕ → List ℕ → Room → Answer
-answerTo text number block room =
-    let broken = firstBreach (text ++ block) in
+-- what a delivery is answered once the blocks of a family's text are taken, with so much lent: the paper's table, in its order
+abbrev pub answerTo : ℕ → List ℕ → ℕ → List ℕ → Room → Answer
+answerTo family text number block room =
+    let broken = firstBreach family (text ++ block) in
     let short = tooShort room (headerIn (text ++ block)) in
     cond (not (eqb (length block) 1024)) (Refused 1 number 0)
     (cond (ltb number (blocksIn text)) Held
@@ -56,9 +56,9 @@ pub data Calls : Session → Lent → List Call → Type 0 where
   called : {s : Session} {lent : Lent} {c : Call} {cs : List Call} → Promised s lent c → Calls (c .returned .session) (c .left) cs
       → Calls s lent (c ∷ cs)
 
--- a fresh session, and a grid as it is lent
-abbrev pub Fresh : List ℤ → List Call → Type 0
-Fresh grid cs = Calls fresh (lend grid) cs
+-- a fresh session of a family, and a grid as it is lent
+abbrev pub Fresh : ℕ → List ℤ → List Call → Type 0
+Fresh family grid cs = Calls (opened family) (lend grid) cs
 
 -- the session as last returned, and the grid as last left
 abbrev pub sessionAfter : Session → List Call → Session
@@ -97,11 +97,11 @@ pub data Disturbed : List Call → List Delivery → Type 0 where
   sent : {c : Call} {es : List Call} {ds : List Delivery} → Disturbed es ds → Disturbed (c ∷ es) (c .sent ∷ ds)
   disturbed : {c : Call} {es : List Call} {ds : List Delivery} → (c .returned .answer ≡ Taken → ⊥) → Disturbed es ds → Disturbed (c ∷ es) ds
 
--- "A block is taken exactly when ..": 1,024 bytes under the next number, no rule of document 01 broken by the text with it, and cells enough
-pub record Due (text : List ℕ) (lent : List ℤ) (d : Delivery) : Type 0 where
+-- "A block is taken exactly when ..": 1,024 bytes under the next number, no rule of the family broken by the text with it, and cells enough
+pub record Due (family : ℕ) (text : List ℕ) (lent : List ℤ) (d : Delivery) : Type 0 where
   pub next : d .number ≡ blocksIn text
   pub block : length (d .bytes) ≡ 1024
-  pub kept : firstBreach (text ++ d .bytes) .kind ≡ 0
+  pub kept : firstBreach family (text ++ d .bytes) .kind ≡ 0
   pub room : cellsIn (text ++ d .bytes) ≤ length lent
 
 -- a cell of the grid, and what it holds: the index stands inside, so no value is made up

@@ -1,9 +1,13 @@
 -- "Each decimal exact": every number of a text is the grammar's meaning of its own stretch of bytes (number, spec Grammar), and every filled
 -- cell is made of three of them.
 use mathlib.Core.List.{List, [], _∷_}
+use mathlib.Core.Bool.{true}
 use mathlib.Core.Path.{_≡_}
 use Prim.Native.Nat.{ℕ, suc, _+_, _*_, _^_, _<_}
-use lib.IntN.{ℤ, pos, _+ℤ_, _*ℤ_}
+use lib.IntN.{ℤ, pos, natAbs, _+ℤ_, _*ℤ_}
+use Rattle.laws.specs.Family.{isCanadian}
+use Rattle.laws.specs.Sign.{signed}
+use Rattle.number.specs.Integer.{saysMinus}
 use Rattle.number.specs.Grammar.{IntegerMeans, RealMeans}
 use Rattle.field.specs.Field.{stretch}
 use Rattle.frame.specs.declared.Header.{Header}
@@ -64,7 +68,18 @@ headNumbers number h =
     ∷ aReal 121 24 (h .greatest)
     ∷ []
 
-pub record Exact (text : List ℕ) : Type 0 where
+-- 02, request 2: degrees, minutes and seconds from a byte on, each by the grammar, and the billionths of an arc-second that they come to, under the
+-- sign of the degrees as it is written
+pub record ArcMeans (block : List ℕ) (first : ℕ) (z : ℤ) : Type 0 where
+  pub degrees : ℤ
+  pub minutes : ℤ
+  pub seconds : ℤ
+  pub degrees-mean : IntegerMeans (stretch first 4 block) degrees
+  pub minutes-mean : IntegerMeans (stretch (first + 4) 2 block) minutes
+  pub seconds-mean : RealMeans (stretch (first + 6) 7 block) seconds
+  pub is : z ≡ signed (saysMinus (stretch first 4 block)) (natAbs degrees * (3600 * 10 ^ 9) + natAbs minutes * (60 * 10 ^ 9) + natAbs seconds)
+
+pub record Exact (family : ℕ) (text : List ℕ) : Type 0 where
   pub header : AllMean (blockAt text 0) (headerNumbers (headerIn text))
   pub heads : (j : ℕ) → j < profilesIn text → startOf text j < blocksIn text
       → AllMean (blockAt text (startOf text j)) (headNumbers (suc j) (headIn text j))
@@ -74,3 +89,6 @@ pub record Exact (text : List ℕ) : Type 0 where
   pub spacing : zIn text * 10 ^ 7 ≡ headerIn text .zstep
   pub filled : (j i : ℕ) → (postIn text j i ≡ voidPost → ⊥)
       → heightIn text j i ≡ (postIn text j i *ℤ pos (zIn text)) +ℤ headIn text j .datum
+  -- a Canadian sheet's SW corner is what bytes 110-135 say, longitude then latitude
+  pub corner : isCanadian family ≡ true
+      → ArcMeans (blockAt text 0) 110 (headerIn text .sw .x) × ArcMeans (blockAt text 0) 123 (headerIn text .sw .y)

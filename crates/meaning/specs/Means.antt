@@ -1,4 +1,4 @@
--- What a text that breaks no rule means: its session and its grid. Counts are counts of posts and blocks of the text.
+-- What a text of a family that breaks no rule means: its session and its grid. Counts are counts of posts and blocks of the text.
 use mathlib.Core.Bool.{cond, Bool, false}
 use mathlib.Core.List.{List, _++_, map}
 use Prim.Native.Nat.{ℕ, zero, suc}
@@ -8,7 +8,7 @@ use lib.IntN.{ℤ}
 use Rattle.ground.specs.Blocks.{blocksIn}
 use Rattle.laws.specs.Lists.{below}
 use Rattle.session.specs.declared.Profile.{Profile}
-use Rattle.session.specs.Session.{noProfile, fresh}
+use Rattle.session.specs.Session.{noProfile, opened}
 use Rattle.session.specs.declared.Session.{Session}
 use Rattle.ground.specs.Posts.{filledIn}
 use Rattle.ground.specs.Extremes.{filledOnly, leastOf, greatestOf, sumOf}
@@ -41,8 +41,8 @@ openProfile text j =
       high = greatestOf (filledOnly (heightsIn text j));
     }
 
-abbrev pub begunSession : List ℕ → Session
-begunSession text =
+abbrev pub begunSession : ℕ → List ℕ → Session
+begunSession family text =
     record {
       header = headerIn text;
       taken = blocksIn text;
@@ -55,11 +55,12 @@ begunSession text =
       finished = cond (ltb (endOf text) (blocksIn text)) 1 0;
       profile = cond (isOpen text) (openProfile text (closedIn text)) noProfile;
       sum = sumOf (filledOnly (allHeights text));
+      family = family;
     }
 
--- before block 0 the session is fresh and the grid as lent
-abbrev pub sessionOf : List ℕ → Session
-sessionOf text = cond (eqb (blocksIn text) 0) fresh (begunSession text)
+-- before block 0 the session is as it was opened and the grid as lent
+abbrev pub sessionOf : ℕ → List ℕ → Session
+sessionOf family text = cond (eqb (blocksIn text) 0) (opened family) (begunSession family text)
 
 -- the cells of the sheet by their posts, void where none stands; what lies past the sheet as it was lent
 abbrev pub gridOf : List ℕ → List ℤ → List ℤ

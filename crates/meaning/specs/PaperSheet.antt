@@ -181,6 +181,7 @@ paperSession =
       finished = 0;
       profile = noProfile;
       sum = pos 4200;
+      family = 0;
     }
 
 -- "Cells: 1000, void, 1200, void, 1100, 900", and the cell past the sheet as lent

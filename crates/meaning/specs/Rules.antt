@@ -1,4 +1,5 @@
--- Which texts break no rule of document 01, and which rule a text breaks first: whole records, each with all its blocks.
+-- Which texts of a family break no rule of document 01 and of 02, request 2, and which rule a text breaks first: whole records, each with all
+-- its blocks. Only what is asked of a record A and of a profile's head goes by the family.
 use Prim.Native.Nat.{ℕ, zero, suc, _+_, _*_, _-_, min}
 use mathlib.Core.Bool.{Bool, cond, false}
 use mathlib.Core.List.{List, [], _∷_, _++_, map}
@@ -100,9 +101,9 @@ isWhole text j = leb (startOf text (suc j)) (blocksIn text)
 
 -- the fields of its head, the posts and blanks of its first block, its place; the posts and blanks of its further blocks; and
 -- closing, where the text has all its posts
-abbrev pub profileRules : List ℕ → ℕ → List Breach
-profileRules text j =
-    inBlock (startOf text j) (headFault (suc j) (blockAt text (startOf text j)))
+abbrev pub profileRules : ℕ → List ℕ → ℕ → List Breach
+profileRules family text j =
+    inBlock (startOf text j) (headFault family (suc j) (blockAt text (startOf text j)))
     ∷ (blockRules text j 0
     ++ (placeRules text j
     ++ (joined (map (λ k. blockRules text j (suc k)) (below (blocksOf text j - 1)))
@@ -140,13 +141,13 @@ endRules text =
     ∷ inBlock (endOf text) (recordC (blockAt text (endOf text)))
     ∷ []
 
-abbrev pub rulesOf : List ℕ → List Breach
-rulesOf text =
-    inBlock 0 (faultOf (blockAt text 0))
-    ∷ (joined (map (λ j. when (hasBegun text j) (profileRules text j)) (below (profilesIn text)))
+abbrev pub rulesOf : ℕ → List ℕ → List Breach
+rulesOf family text =
+    inBlock 0 (faultOf family (blockAt text 0))
+    ∷ (joined (map (λ j. when (hasBegun text j) (profileRules family text j)) (below (profilesIn text)))
     ++ (when (leb (endOf text) (blocksIn text)) (sheetRules text)
     ++ when (ltb (endOf text) (blocksIn text)) (endRules text)))
 
--- the first rule of document 01 that a text of whole blocks breaks
-abbrev pub firstBreach : List ℕ → Breach
-firstBreach text = firstBroken (rulesOf text)
+-- the first rule that a text of whole blocks breaks
+abbrev pub firstBreach : ℕ → List ℕ → Breach
+firstBreach family text = firstBroken (rulesOf family text)

@@ -28,8 +28,12 @@ unsignedPart s = pastOne isSign (pastAll isBlank s)
 abbrev pub integerForm : List ℕ → Bool
 integerForm s = not (isEmpty (digits (unsignedPart s))) and isEmpty (pastAll isDigit (unsignedPart s))
 
+-- a field says minus where that stands behind its blanks, also before zero
+abbrev pub saysMinus : List ℕ → Bool
+saysMinus s = starts isMinus (pastAll isBlank s)
+
 abbrev pub integerValue : List ℕ → ℤ
-integerValue s = signed (starts isMinus (pastAll isBlank s)) (number 0 (digits (unsignedPart s)))
+integerValue s = signed (saysMinus s) (number 0 (digits (unsignedPart s)))
 
 unfoldable pub integer : List ℕ → Reading
 integer s = ofLength 6 s (cond (integerForm s) (read (integerValue s)) (refused 6))

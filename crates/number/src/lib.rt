@@ -7,7 +7,7 @@ ghost use mathlib.Core.Path.{_≡_};
 ghost use Prim.Native.Nat.{ℕ, _<_, _^_};
 ghost use lib.IntN.{natAbs};
 ghost use Rattle.laws.specs.Sign.{signed};
-ghost use Rattle.number.specs.Integer.{integer, refused};
+ghost use Rattle.number.specs.Integer.{integer, refused, saysMinus};
 ghost use Rattle.number.specs.Real.{real};
 ghost use Rattle.number.specs.Steps.{readingOf};
 ghost use Rattle.number.specs.Tens.{tenTo};
@@ -103,6 +103,14 @@ pub fn read_integer(field: &[u8]) -> Reading
         kind: 0,
         value: join(walk::minus_at(field, t), w.value),
     }
+}
+
+// Whether a field says minus, also before zero: a reading's value has lost that.
+pub fn is_minus(field: &[u8]) -> bool
+    ensures { λ r. ⌜ r ≡ saysMinus (now (field .entry)) ⌝ }
+{
+    let t = walk::past_blanks(field, 0);
+    walk::minus_at(field, t)
 }
 
 fn settle(minus: bool, s: Scaled) -> Reading

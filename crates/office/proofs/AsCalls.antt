@@ -45,13 +45,13 @@ module _ (numbers base : List ℤ) where
   says : (v : Verdict) → sessionSaid (numbersAfterAnswer (answerOf s v .answer) (answerOf s v .session) numbers) ≡ answerOf s v .session
   says again = refl
   says (wrong kind block byte) = refl
-  says (begins h) = said-back (begun h) (drop sessionNumbers numbers)
+  says (begins h) = said-back (begun (s .family) h) (drop sessionNumbers numbers)
   says (fills after at hs) = said-back after (drop sessionNumbers numbers)
 
   keeps : numbers ≡ kept s base → (v : Verdict) → numbersAfterAnswer (answerOf s v .answer) (answerOf s v .session) numbers ≡ kept (answerOf s v .session) base
   keeps e again = e
   keeps e (wrong kind block byte) = e
-  keeps e (begins h) = ap (λ (l : List ℤ). kept (begun h) l) e
+  keeps e (begins h) = ap (λ (l : List ℤ). kept (begun (s .family) h) l) e
   keeps e (fills after at hs) = ap (λ (l : List ℤ). kept after l) e
 
 module _ {numbers grid : List ℤ} {c : DeskCall} (p : DeskPromised numbers grid c) where
@@ -141,36 +141,36 @@ tells-kind kind block byte e = record { tells = λ bytes. rw e; taken = λ z. ab
 tells-broken : (b : Breach) {y : Answer} → Telling y → Telling (refusedBy b y)
 tells-broken b {y} f = by-test (eqb (b .kind) 0) (λ e. rw e f) (λ e. rw e (tells-kind (b .kind) (b .block) (b .byte) e))
 
-pub told-bytes : (text : List ℕ) (number : ℕ) (block : List ℕ) (room : Room) → Telling (answerTo text number block room)
-told-bytes text number block room =
+pub told-bytes : (family : ℕ) (text : List ℕ) (number : ℕ) (block : List ℕ) (room : Room) → Telling (answerTo family text number block room)
+told-bytes family text number block room =
     tells-either (not (eqb (length block) 1024)) (tells-kind 1 number 0 refl)
     (tells-either (ltb number (blocksIn text)) tells-held
     (tells-either (ltb (blocksIn text) number) (tells-kind 3 number 0 refl)
     (tells-either (eqb number 0)
-    (tells-broken (firstBreach (text ++ block))
+    (tells-broken (firstBreach family (text ++ block))
     (tells-either (tooShort room (headerIn (text ++ block))) (tells-kind 12 0 0 refl) tells-taken))
     (tells-either (isComplete text) (tells-kind 4 number 0 refl)
     (tells-either (tooShort room (headerIn (text ++ block))) (tells-kind 12 number 0 refl)
-    (tells-broken (firstBreach (text ++ block)) tells-taken))))))
+    (tells-broken (firstBreach family (text ++ block)) tells-taken))))))
 
 module _ (lent : List ℤ) where
-  call-text : {text : List ℕ} {numbers grid : List ℤ} {c : DeskCall} → Stands text lent (desk (sessionSaid numbers) (lend grid))
+  call-text : {family : ℕ} {text : List ℕ} {numbers grid : List ℤ} {c : DeskCall} → Stands family text lent (desk (sessionSaid numbers) (lend grid))
       → DeskPromised numbers grid c
       → bytesIf (asCall numbers grid c .returned .answer) (c .sent .bytes) ≡ cond (eqb (c .result) 0) (c .sent .bytes) []
-  call-text {text} {numbers} {grid} {c} st p =
-      let e = answer-told text lent (desk (sessionSaid numbers) (lend grid)) st (c .sent) in
+  call-text {family} {text} {numbers} {grid} {c} st p =
+      let e = answer-told family text lent (desk (sessionSaid numbers) (lend grid)) st (c .sent) in
       let room = roomOf (lend lent) in
       ap (λ (a : Answer). bytesIf a (c .sent .bytes)) e
-      ∙ told-bytes text (c .sent .number) (c .sent .bytes) room .tells (c .sent .bytes)
+      ∙ told-bytes family text (c .sent .number) (c .sent .bytes) room .tells (c .sent .bytes)
       ∙ ap (λ (n : ℕ). cond (eqb n 0) (c .sent .bytes) []) (sym (p .tells ∙ ap answerKind e))
 
-  pub as-text : {text : List ℕ} {numbers grid : List ℤ} {cs : List DeskCall} → Stands text lent (desk (sessionSaid numbers) (lend grid))
+  pub as-text : {family : ℕ} {text : List ℕ} {numbers grid : List ℤ} {cs : List DeskCall} → Stands family text lent (desk (sessionSaid numbers) (lend grid))
       → DeskCalls numbers grid cs → takenText (asCalls numbers grid cs) ≡ textTaken cs
   as-text st noDeskCall = refl
-  as-text {text} st (deskCalled {numbers} {grid} {c} {cs} p rest) =
+  as-text {family} {text} st (deskCalled {numbers} {grid} {c} {cs} p rest) =
       let k = desk (sessionSaid numbers) (lend grid) in
       let d : desk (sessionSaid (c .session)) (lend (c .grid)) ≡ after k (c .sent)
       = (λ j. desk (call-says p j) (lend (c .grid))) ∙ call-desk (as-promised p) in
-      let next = subst (λ (x : Desk). Stands (text ++ bytesIf (answered k (c .sent)) (c .sent .bytes)) lent x) (sym d)
-      (stands-next text lent k st (c .sent)) in
+      let next = subst (λ (x : Desk). Stands family (text ++ bytesIf (answered k (c .sent)) (c .sent .bytes)) lent x) (sym d)
+      (stands-next family text lent k st (c .sent)) in
       ap₂ (λ (a b : List ℕ). a ++ b) (call-text st p) (as-text next rest)

@@ -5,16 +5,16 @@ use mathlib.Core.List.{List, [], _∷_, _++_, map}
 use mathlib.Core.Path.{_≡_}
 use lib.Dec.{eqb}
 use lib.IntN.{ℤ}
-use Rattle.session.specs.Session.{fresh}
+use Rattle.session.specs.Session.{opened}
 use Rattle.delivery.specs.Deliver.{answerKind, answerPlace}
 use Rattle.meaning.specs.Deliveries.{Delivery}
 use Rattle.slip.specs.Slip.{handed}
 use Rattle.ledger.specs.Ledger.{openKind, openedWith, deliveredTo, numbersLeft, gridLeft}
 
--- what `dem_open` promises of numbers that it is lent, word for word
-pub record OpenPromised (lent : List ℤ) (result : ℕ) (numbers : List ℤ) : Type 0 where
+-- what `dem_open` promises of a family and of numbers that it is lent, word for word
+pub record OpenPromised (family : ℕ) (lent : List ℤ) (result : ℕ) (numbers : List ℤ) : Type 0 where
   pub tells : result ≡ openKind lent
-  pub keeps : numbers ≡ openedWith fresh lent
+  pub keeps : numbers ≡ openedWith (opened family) lent
 
 -- one call: what is delivered, the slice for the answer as lent; the result, and numbers, grid and answer as it left them
 pub record DeskCall : Type 0 where

@@ -41,7 +41,7 @@ pub write-sheet-promises : (κs : Lfts 3) (a : ArgsD write_sheet.signature κs) 
 write-sheet-promises κs a z e told = record { answers = told .0; writes = told .1 }
 
 pub dem-open-promises : (κs : Lfts 1) (a : ArgsD dem-open.signature κs) (z : ResD dem-open.signature κs) (e : AtExit dem-open.ended κs)
-    → dem-open·reads.Learnt κs a z e → OpenPromised (now (a .0)) z (now (e .0))
+    → dem-open·reads.Learnt κs a z e → OpenPromised (a .0) (now (a .1 .0)) z (now (e .1 .0))
 dem-open-promises κs a z e told = record { tells = told .0; keeps = told .1 }
 
 pub dem-deliver-promises : (κs : Lfts 4) (a : ArgsD dem_deliver.signature κs) (z : ResD dem_deliver.signature κs) (e : AtExit dem_deliver.ended κs)

@@ -9,15 +9,16 @@ use native.Mathlib.Omega.{arith}
 use lib.ListN.{length}
 use lib.IntN.{ℤ, pos, negsuc, natAbs}
 use native.Mathlib.Nat.{div-le-of-le-mul}
-use Rattle.laws.specs.Sign.{_and_, notNegative}
-use Rattle.laws.proofs.Tests.{by-test, clash, and-first, and-second}
+use Rattle.laws.specs.Family.{isCanadian}
+use Rattle.laws.proofs.Tests.{by-test, either, split, and-second}
 use Rattle.laws.proofs.Integers.{size-minus}
 use Rattle.number.specs.declared.Reading.{Reading}
 use Rattle.number.specs.Integer.{refused, integer}
 use Rattle.number.specs.Real.{real}
 use Rattle.number.proofs.Limits.{Limited, real-limits}
-use Rattle.field.specs.Field.{Judged, firstOf, inLimits, limits, stretch, realAt}
+use Rattle.field.specs.Field.{Judged, firstOf, inRange, limits, postsLimits, stretch, realAt}
 use Rattle.field.specs.declared.Limits.{Limits}
+use Rattle.field.proofs.Ranges.{HasKind, range-read}
 use Rattle.profile.specs.RecordB.{headFields, headFault, headOf, recordB, hundredths, isDatum}
 use Rattle.profile.specs.declared.record_b.Head.{Head}
 use Rattle.profile.specs.declared.record_b.Headed.the-variants.{Profile, Refused}
@@ -34,24 +35,24 @@ all-read (j ∷ js) z =
     by-test (eqb (j .reading .kind) 0) (λ e. (eqb-true (j .reading .kind) 0 e, go (rw e at z)))
     (λ e. absurd (eqb-false (j .reading .kind) 0 e (rw e at z)))
 
-module _ (number : ℕ) (block : List ℕ) (h : Head) (p : recordB number block ≡ Profile h) where
+module _ (family number : ℕ) (block : List ℕ) (h : Head) (p : recordB family number block ≡ Profile h) where
   -- a head is answered where there is no fault, and it is what the fields say
-  pub head-answered : (headFault number block .kind ≡ 0) × (h ≡ headOf block)
+  pub head-answered : (headFault family number block .kind ≡ 0) × (h ≡ headOf block)
   unfolding recordB
   head-answered =
-      by-test (eqb (headFault number block .kind) 0)
+      by-test (eqb (headFault family number block .kind) 0)
       (λ e.
       let q : Profile (headOf block) ≡ Profile h = rw e at p in
       let k : h ≡ headOf block = cc in
-      (eqb-true (headFault number block .kind) 0 e, k))
+      (eqb-true (headFault family number block .kind) 0 e, k))
       (λ e.
-      let q : Refused (headFault number block .kind) (headFault number block .byte) ≡ Profile h = rw e at p in
+      let q : Refused (headFault family number block .kind) (headFault family number block .byte) ≡ Profile h = rw e at p in
       let z : _≡_ {A = ℕ} 0 1 = cc in
       absurd (omega arith))
 
-  nine-read : AllRead (headFields number block)
+  nine-read : AllRead (headFields family number block)
   nine-read =
-      by-test (eqb (length block) 1024) (λ e. all-read (headFields number block) (rw e at head-answered .0))
+      by-test (eqb (length block) 1024) (λ e. all-read (headFields family number block) (rw e at head-answered .0))
       (λ e.
       let q : _≡_ {A = ℕ} 1 0 = rw e at head-answered .0 in
       absurd (omega arith))
@@ -63,13 +64,23 @@ own-rule t k r n z =
     by-test (eqb (r .kind) 0) (λ e. (eqb-true (r .kind) 0 e, by-test t (λ b. b) (λ b. absurd (n (rw (e, b) at z)))))
     (λ e. absurd (eqb-false (r .kind) 0 e (rw e at z)))
 
-in-limits : (l : Limits) (z : ℤ) → inLimits l z ≡ true → (l .least ≤ notNegative z) × (notNegative z ≤ l .greatest)
-in-limits l (pos v) t =
-    let u = and-second (leb (l .least) v) (leb v (l .greatest) and eqb (v % l .step) 0) t in (
-      leb-true (l .least) v (and-first (leb (l .least) v) (leb v (l .greatest) and eqb (v % l .step) 0) t),
-      leb-true v (l .greatest) (and-first (leb v (l .greatest)) (eqb (v % l .step) 0) u),
-    )
-in-limits l (negsuc v) t = clash (sym t)
+-- posts in the limits of either family are 1 to 2,048
+range-few : (l : Limits) (v : ℕ) → 1 ≤ l .least → l .greatest ≤ 2048 → inRange l v ≡ true → (1 ≤ v) × (v ≤ 2048)
+range-few l v least greatest t =
+    let a = split (leb (l .least) v) _ t in
+    let b = split (leb v (l .greatest)) _ (a .1) in
+    let from = leb-true (l .least) v (a .0) in
+    let to = leb-true v (l .greatest) (b .0) in
+    (omega arith, omega arith)
+
+posts-few : (family v : ℕ) → inRange (postsLimits family) v ≡ true → (1 ≤ v) × (v ≤ 2048)
+posts-few family v =
+    either (λ l. inRange l v ≡ true → (1 ≤ v) × (v ≤ 2048)) (isCanadian family)
+    (range-few (limits 1201 1201 1 7) v (omega arith) (omega arith))
+    (range-few (limits 1 2048 1 7) v (omega arith) (omega arith))
+
+pub posts-kind : (family : ℕ) → HasKind 7 (postsLimits family)
+posts-kind family = either (HasKind 7) (isCanadian family) refl refl
 
 hundredths-size : (z : ℤ) → natAbs (hundredths z) ≡ natAbs z / 10 ^ 7
 hundredths-size (pos n) = refl
@@ -80,20 +91,29 @@ datum-size z t =
     let le : natAbs z ≤ 10000 * 10 ^ 9 = leb-true (natAbs z) (10000 * 10 ^ 9) (and-second (eqb (natAbs z % 10 ^ 7) 0) (leb (natAbs z) (10000 * 10 ^ 9)) t) in
     rw (hundredths-size z) (div-le-of-le-mul (10 ^ 7) (omega arith))
 
-module _ (number : ℕ) (block : List ℕ) (h : Head) (p : recordB number block ≡ Profile h) where
-  abbrev nine : AllRead (headFields number block)
-  nine = nine-read number block h p
+module _ (family number : ℕ) (block : List ℕ) (h : Head) (p : recordB family number block ≡ Profile h) where
+  abbrev nine : AllRead (headFields family number block)
+  nine = nine-read family number block h p
 
   head-is : headOf block ≡ h
-  head-is = sym (head-answered number block h p .1)
+  head-is = sym (head-answered family number block h p .1)
 
+  -- the posts are those that a sheet of the family has: 1,201 and no other in a Canadian one
+  pub head-posts : inRange (postsLimits family) (h .posts) ≡ true
+  head-posts =
+      let n : postsLimits family .kind ≡ 0 → ⊥ = λ e. omega (arith, e, posts-kind family) in
+      subst (λ (x : Head). inRange (postsLimits family) (x .posts) ≡ true) head-is
+      (range-read (postsLimits family) (integer (stretch 13 6 block)) n (nine .1 .1 .0))
+
+  -- in either family
   pub head-bounds : (1 ≤ h .posts) × (h .posts ≤ 2048) × (natAbs (h .datum) ≤ 1000000)
   head-bounds =
-      let posts = own-rule (inLimits (limits 1 2048 1 7) (integer (stretch 13 6 block) .value)) 7 (integer (stretch 13 6 block)) (λ e. omega arith) (nine .1 .1 .0) in
       let datum = own-rule (isDatum (realAt 73 block)) 7 (real (stretch 73 24 block)) (λ e. omega arith) (nine .1 .1 .1 .1 .1 .1 .0) in
-      let range = in-limits (limits 1 2048 1 7) (integer (stretch 13 6 block) .value) (posts .1) in
-      subst (λ (x : Head). (1 ≤ x .posts) × (x .posts ≤ 2048) × (natAbs (x .datum) ≤ 1000000)) head-is
-      (range .0, range .1, datum-size (realAt 73 block) (datum .1))
+      let range = posts-few family (h .posts) head-posts in (
+        range .0,
+        range .1,
+        subst (λ (x : Head). natAbs (x .datum) ≤ 1000000) head-is (datum-size (realAt 73 block) (datum .1)),
+      )
 
   pub head-reals : Limited (h .x) × Limited (h .y) × Limited (h .least) × Limited (h .greatest)
   head-reals =

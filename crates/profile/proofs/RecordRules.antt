@@ -20,24 +20,24 @@ use Rattle.number.specs.Real.{real}
 use Rattle.field.specs.Field.{fault, limits, stretch, wholeAt, realAt, restFault}
 use Rattle.field.specs.Rules.{Clause, KeepsAll, FirstBroken, clause, integerForms, realRules, blankRules}
 use Rattle.field.proofs.Rules.{brokenOr, named, first-append, broken-named, fault-first, fault-exactly}
-use Rattle.field.proofs.FieldRules.{owned, Says, own-says, form-says, integer-field, real-field, Told, told-first, told-all}
+use Rattle.field.proofs.FieldRules.{owned, Says, own-says, form-says, integer-says, integer-field, real-field, Told, told-first, told-all}
 use Rattle.field.proofs.FieldRules.Told.{end, next}
 use Rattle.profile.specs.RecordB.{headFields, headFault, headOf, recordB}
 use Rattle.profile.specs.RecordC.{isNegative, errorReading, fieldsC, recordC}
-use Rattle.profile.specs.RulesB.{headRules, rulesHead}
+use Rattle.profile.specs.RulesB.{manyPosts, headRules, rulesHead}
 use Rattle.profile.specs.RulesC.{errorRules, accuracyRules, rulesC}
 use Rattle.profile.specs.declared.record_b.Head.{Head}
 use Rattle.profile.specs.declared.record_b.Headed.the-variants.{Profile, Refused}
 use Rattle.profile.proofs.Parts.{negative-is}
-use Rattle.profile.proofs.RecordLaws.{head-answered}
+use Rattle.profile.proofs.RecordLaws.{head-answered, posts-kind}
 
 -- ---- the head of a record B
-module _ (number : ℕ) (block : List ℕ) where
-  head-told : length block ≡ 1024 → Told block (headRules number) (headFields number block)
+module _ (family number : ℕ) (block : List ℕ) where
+  head-told : length block ≡ 1024 → Told block (headRules family number) (headFields family number block)
   head-told h =
       next (integer-field block h 1 refl (limits 1 1 1 9) refl)
       (next (integer-field block h 7 refl (limits number number 1 9) refl)
-      (next (integer-field block h 13 refl (limits 1 2048 1 7) refl)
+      (next (integer-says block 13 6 h (omega arith) (omega arith) 7 (λ b. manyPosts family) refl (posts-kind family) (omega arith))
       (next (integer-field block h 19 refl (limits 1 1 1 9) refl)
       (next (real-field block h 25 refl)
       (next (real-field block h 49 refl)
@@ -46,33 +46,33 @@ module _ (number : ℕ) (block : List ℕ) where
       (λ b. eqb (natAbs (realAt 73 b) % 10 ^ 7) 0 and leb (natAbs (realAt 73 b)) (10000 * 10 ^ 9)) refl 7 refl)
       (next (real-field block h 97 refl) (next (real-field block h 121 refl) end))))))))
 
-  head-is : headFault number block ≡ brokenOr block (rulesHead number) (fault 0 0)
+  head-is : headFault family number block ≡ brokenOr block (rulesHead family number) (fault 0 0)
   unfolding rulesHead
   head-is =
       by-test (eqb (length block) 1024) (λ e. rw e (sym (told-all (head-told (eqb-true (length block) 1024 e))))) (λ e. rw e)
 
-  head-named : all named (rulesHead number) ≡ true
+  head-named : all named (rulesHead family number) ≡ true
   unfolding rulesHead
   head-named = refl
 
   -- no fault exactly when every rule is kept, and else the first broken one
-  pub head-exactly : (headFault number block .kind ≡ 0) ↔ KeepsAll block (rulesHead number)
-  head-exactly = fault-exactly block (rulesHead number) (headFault number block) head-is head-named
+  pub head-exactly : (headFault family number block .kind ≡ 0) ↔ KeepsAll block (rulesHead family number)
+  head-exactly = fault-exactly block (rulesHead family number) (headFault family number block) head-is head-named
 
-  pub head-first : (c : Clause) → FirstBroken block c (rulesHead number) → headFault number block ≡ fault (c .kind) (c .byte)
-  head-first = fault-first block (rulesHead number) (headFault number block) head-is head-named
+  pub head-first : (c : Clause) → FirstBroken block c (rulesHead family number) → headFault family number block ≡ fault (c .kind) (c .byte)
+  head-first = fault-first block (rulesHead family number) (headFault family number block) head-is head-named
 
   -- the same of the answer
-  pub profile-exactly : (h : Head) → (recordB number block ≡ Profile h) ↔ (KeepsAll block (rulesHead number) × (h ≡ headOf block))
+  pub profile-exactly : (h : Head) → (recordB family number block ≡ Profile h) ↔ (KeepsAll block (rulesHead family number) × (h ≡ headOf block))
   unfolding recordB
   profile-exactly h = (
     λ p.
-        let a = head-answered number block h p in
+        let a = head-answered family number block h p in
         (head-exactly .0 (a .0), a .1),
-    λ k. rw (eq-eqb (headFault number block .kind) 0 (head-exactly .1 (k .0))) (ap Profile (sym (k .1))),
+    λ k. rw (eq-eqb (headFault family number block .kind) 0 (head-exactly .1 (k .0))) (ap Profile (sym (k .1))),
   )
 
-  pub profile-refused : (c : Clause) → FirstBroken block c (rulesHead number) → recordB number block ≡ Refused (c .kind) (c .byte)
+  pub profile-refused : (c : Clause) → FirstBroken block c (rulesHead family number) → recordB family number block ≡ Refused (c .kind) (c .byte)
   unfolding recordB
   profile-refused c b =
       let n : eqb (c .kind) 0 ≡ false = ne-eqb (c .kind) 0 (broken-named b head-named) in

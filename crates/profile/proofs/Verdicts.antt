@@ -14,22 +14,22 @@ use Rattle.profile.specs.RecordB.{recordB, headFields, headOf}
 use Rattle.profile.specs.declared.record_b.Headed.the-variants.{Profile, Refused}
 use Rattle.profile.specs.RecordC.{recordC, fieldsC}
 
-module _ (number : ℕ) (block : List ℕ) where
-  pub head-length : (length block ≡ 1024 → ⊥) → Refused 1 0 ≡ recordB number block
+module _ (family number : ℕ) (block : List ℕ) where
+  pub head-length : (length block ≡ 1024 → ⊥) → Refused 1 0 ≡ recordB family number block
   unfolding recordB
   head-length h = sym (simp (ne-eqb (length block) 1024 h))
 
-  module _ (h : length block ≡ 1024) (f : Fault) (e : f ≡ firstOf (headFields number block)) where
-    pub head-refused : (f .kind ≡ 0 → ⊥) → Refused (f .kind) (f .byte) ≡ recordB number block
+  module _ (h : length block ≡ 1024) (f : Fault) (e : f ≡ firstOf (headFields family number block)) where
+    pub head-refused : (f .kind ≡ 0 → ⊥) → Refused (f .kind) (f .byte) ≡ recordB family number block
     unfolding recordB
     head-refused n =
-        let q : eqb (firstOf (headFields number block) .kind) 0 ≡ false = ap (λ (x : Fault). eqb (x .kind) 0) (sym e) ∙ ne-eqb (f .kind) 0 n in
+        let q : eqb (firstOf (headFields family number block) .kind) 0 ≡ false = ap (λ (x : Fault). eqb (x .kind) 0) (sym e) ∙ ne-eqb (f .kind) 0 n in
         sym (simp (eq-eqb (length block) 1024 h, q) (ap (λ (x : Fault). Refused (x .kind) (x .byte)) (sym e)))
 
-    pub head-good : f .kind ≡ 0 → Profile (headOf block) ≡ recordB number block
+    pub head-good : f .kind ≡ 0 → Profile (headOf block) ≡ recordB family number block
     unfolding recordB
     head-good z =
-        let q : eqb (firstOf (headFields number block) .kind) 0 ≡ true = ap (λ (x : Fault). eqb (x .kind) 0) (sym e) ∙ eq-eqb (f .kind) 0 z in
+        let q : eqb (firstOf (headFields family number block) .kind) 0 ≡ true = ap (λ (x : Fault). eqb (x .kind) 0) (sym e) ∙ eq-eqb (f .kind) 0 z in
         sym (simp (eq-eqb (length block) 1024 h, q))
 
 module _ (block : List ℕ) where

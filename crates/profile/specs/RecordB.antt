@@ -9,7 +9,7 @@ use Rattle.laws.specs.Sign.{_and_}
 use Rattle.number.specs.declared.Reading.{Reading}
 use Rattle.number.specs.Integer.{refused, integer}
 use Rattle.number.specs.Real.{real}
-use Rattle.field.specs.Field.{stretch, limits, ranged, at, Judged, wholeAt, realAt, fault, firstOf}
+use Rattle.field.specs.Field.{stretch, limits, postsLimits, ranged, at, Judged, wholeAt, realAt, fault, firstOf}
 use Rattle.field.specs.declared.Fault.{Fault}
 use Rattle.profile.specs.declared.record_b.Head.{Head}
 use Rattle.profile.specs.declared.record_b.Headed.{Headed}
@@ -22,12 +22,12 @@ isDatum z = eqb (natAbs z % 10 ^ 7) 0 and leb (natAbs z) (10000 * 10 ^ 9)
 abbrev pub datumField : Reading → Reading
 datumField r = cond (eqb (r .kind) 0) (cond (isDatum (r .value)) r (refused 7)) r
 
--- the nine fields, in their order; the profile's number is counted from 1
-abbrev pub headFields : ℕ → List ℕ → List Judged
-headFields number block =
+-- the nine fields, in their order, by the sheet's family; the profile's number is counted from 1
+abbrev pub headFields : ℕ → ℕ → List ℕ → List Judged
+headFields family number block =
     at 1 (ranged (limits 1 1 1 9) (integer (stretch 1 6 block)))
     ∷ at 7 (ranged (limits number number 1 9) (integer (stretch 7 6 block)))
-    ∷ at 13 (ranged (limits 1 2048 1 7) (integer (stretch 13 6 block)))
+    ∷ at 13 (ranged (postsLimits family) (integer (stretch 13 6 block)))
     ∷ at 19 (ranged (limits 1 1 1 9) (integer (stretch 19 6 block)))
     ∷ at 25 (real (stretch 25 24 block))
     ∷ at 49 (real (stretch 49 24 block))
@@ -54,12 +54,12 @@ headOf block =
     }
 
 -- a block of another length is 1 at 0
-abbrev pub headFault : ℕ → List ℕ → Fault
-headFault number block = cond (eqb (length block) 1024) (firstOf (headFields number block)) (fault 1 0)
+abbrev pub headFault : ℕ → ℕ → List ℕ → Fault
+headFault family number block = cond (eqb (length block) 1024) (firstOf (headFields family number block)) (fault 1 0)
 
 -- the cases of the answer, with document 01's kind and byte
 abbrev pub headedBy : Fault → Head → Headed
 headedBy f h = cond (eqb (f .kind) 0) (Profile h) (Refused (f .kind) (f .byte))
 
-unfoldable pub recordB : ℕ → List ℕ → Headed
-recordB number block = headedBy (headFault number block) (headOf block)
+unfoldable pub recordB : ℕ → ℕ → List ℕ → Headed
+recordB family number block = headedBy (headFault family number block) (headOf block)

@@ -6,7 +6,7 @@ use Rattle.laws.specs.Sign.{notNegative}
 use Rattle.number.specs.Real.{real}
 use Rattle.number.specs.declared.Reading.{Reading}
 use Rattle.number.specs.Integer.{integer}
-use Rattle.field.specs.Field.{stretch, fault, faultOr, limits, ranged, wholeAt}
+use Rattle.field.specs.Field.{stretch, fault, faultOr, limits, postsLimits, ranged, wholeAt}
 use Rattle.field.specs.declared.Fault.{Fault}
 use Rattle.profile.specs.declared.record_b.Reals.{Reals}
 use Rattle.profile.specs.RecordB.{datumField, hundredths}
@@ -28,11 +28,11 @@ realsFault s =
     faultOr (s .x) 25
     (faultOr (s .y) 49 (faultOr (datumField (s .datum)) 73 (faultOr (s .least) 97 (faultOr (s .greatest) 121 (fault 0 0)))))
 
-abbrev pub countsFault : ℕ → List ℕ → Reading → Fault → Fault
-countsFault number block posts rest =
+abbrev pub countsFault : ℕ → ℕ → List ℕ → Reading → Fault → Fault
+countsFault family number block posts rest =
     faultOr (ranged (limits 1 1 1 9) (integer (stretch 1 6 block))) 1
     (faultOr (ranged (limits number number 1 9) (integer (stretch 7 6 block))) 7
-    (faultOr (ranged (limits 1 2048 1 7) posts) 13 (faultOr (ranged (limits 1 1 1 9) (integer (stretch 19 6 block))) 19 rest)))
+    (faultOr (ranged (postsLimits family) posts) 13 (faultOr (ranged (limits 1 1 1 9) (integer (stretch 19 6 block))) 19 rest)))
 
 abbrev pub headFrom : Reading → Reals → Head
 headFrom posts s =

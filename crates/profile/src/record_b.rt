@@ -79,13 +79,13 @@ fn reals_fault(s: Reals) -> Fault
 }
 
 // The four integers; the posts were read before.
-fn counts_fault(number: u64, block: &[u8], posts: Reading, rest: Fault) -> Fault
+fn counts_fault(family: u64, number: u64, block: &[u8], posts: Reading, rest: Fault) -> Fault
     requires { ⌜ length (now block) ≡ 1024 ⌝ }
-    ensures { λ f. ⌜ f ≡ countsFault number (now (block .entry)) posts rest ⌝ }
+    ensures { λ f. ⌜ f ≡ countsFault family number (now (block .entry)) posts rest ⌝ }
 {
     let one = field::limits_of(1, 1, 1, 9);
     let last = field::judge_at(one, block, 19, rest);
-    let many = field::judge(field::limits_of(1, 2048, 1, 7), posts, 13, last);
+    let many = field::judge(field::posts_limits(family), posts, 13, last);
     let numbered = field::judge_at(field::limits_of(number, number, 1, 9), block, 7, many);
     field::judge_at(one, block, 1, numbered)
 }
@@ -114,16 +114,16 @@ fn head_from(posts: Reading, s: Reals) -> Head
     }
 }
 
-// The head of the profile with this number, counted from 1, or its first fault.
-pub fn read_head(number: u64, block: &[u8]) -> Headed
-    ensures { λ r. ⌜ r ≡ recordB number (now (block .entry)) ⌝ }
+// The head of the profile with this number, counted from 1, of a family's sheet, or its first fault.
+pub fn read_head(family: u64, number: u64, block: &[u8]) -> Headed
+    ensures { λ r. ⌜ r ≡ recordB family number (now (block .entry)) ⌝ }
 {
     if block.len() != 1024 {
         return Headed::Refused(1, 0);
     }
     let posts = field::integer_at(block, 13);
     let s = read_reals(block);
-    let f = counts_fault(number, block, posts, reals_fault(s));
+    let f = counts_fault(family, number, block, posts, reals_fault(s));
     if f.kind != 0 {
         return Headed::Refused(f.kind, f.byte);
     }

@@ -39,6 +39,7 @@ filledWith s column p n u sum =
       finished = s .finished;
       profile = readWith p n u;
       sum = s .sum +ℤ sum;
+      family = s .family;
     }
 
 -- 2 ^ 32, far above what any sheet counts

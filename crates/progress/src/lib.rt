@@ -74,6 +74,7 @@ fn fill_counted(s: Session, column: u64, p: Profile, n: u64, u: Tally, sum: i64)
         finished: s.finished,
         profile,
         sum: s.sum + sum,
+        family: s.family,
     }
 }
 
@@ -130,6 +131,7 @@ pub fn close_session(s: Session) -> Session
         finished: s.finished,
         profile,
         sum: s.sum,
+        family: s.family,
     }
 }
 
@@ -154,5 +156,6 @@ pub fn finish_session(s: Session) -> Session
         finished: 1,
         profile,
         sum: s.sum,
+        family: s.family,
     }
 }

@@ -40,11 +40,11 @@ module _ (template : List ℕ) where
   SameBlocks g g′ = (b : ℕ) → b < count g → b < count g′ → blockSent template h g b ≡ blockSent template h g′ b
 
   abbrev pub deskOf : List ℤ → List ℤ → ℕ → Desk
-  deskOf lent g k = afterAll (atFirst lent) (inOrder (blockSent template h g) k)
+  deskOf lent g k = afterAll (atFirst 0 lent) (inOrder (blockSent template h g) k)
 
   pub desks-alike : (lent g g′ : List ℤ) → SameBlocks g g′ → (k : ℕ) → k ≤ count g → k ≤ count g′ → deskOf lent g k ≡ deskOf lent g′ k
   desks-alike lent g g′ same k le le′ =
-      ap (afterAll (atFirst lent))
+      ap (afterAll (atFirst 0 lent))
       (map-same (delivery (blockSent template h g)) (delivery (blockSent template h g′)) 0 k
       (λ b p q. ap (λ (l : List ℕ). record { number = b; bytes = l }) (same b (omega (arith, q, le)) (omega (arith, q, le′)))))
 

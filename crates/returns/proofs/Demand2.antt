@@ -95,7 +95,7 @@ module _ (template : List ℕ) (grid : List ℤ) (w : Writing) (promised : Wrote
 -- blocks that are those of a sheet that can be sent, delivered in order from a fresh session
 module _ (template : List ℕ) (grid : List ℤ) (can : CanBeSent template grid) (block : ℕ → List ℕ)
     (sent : (b : ℕ) → b < blockCount (headerOf template) grid → block b ≡ blockSent template (headerOf template) grid b)
-    (lent : List ℤ) (room : cellsOf (headerOf template) ≤ length lent) (cs : List Call) (kept : Fresh lent cs)
+    (lent : List ℤ) (room : cellsOf (headerOf template) ≤ length lent) (cs : List Call) (kept : Fresh 0 lent cs)
     (order : deliveries cs ≡ inOrder block (blockCount (headerOf template) grid)) where
   abbrev h : Header
   h = headerOf template
@@ -117,16 +117,16 @@ module _ (template : List ℕ) (grid : List ℤ) (can : CanBeSent template grid)
       ∙ ap (inOrder (blockSent template h grid)) (sym count-is)
 
   abbrev end : Desk
-  end = afterAll (atFirst lent) (inOrder (blockSent template h grid) (startBy (cellsSent h grid) (columnsOf h)))
+  end = afterAll (atFirst 0 lent) (inOrder (blockSent template h grid) (startBy (cellsSent h grid) (columnsOf h)))
 
   same-desk : desk (sessionAfter fresh cs) (lend (gridAfter lent cs)) ≡ end
-  same-desk = calls-desk kept ∙ ap (afterAll (atFirst lent)) same-order
+  same-desk = calls-desk kept ∙ ap (afterAll (atFirst 0 lent)) same-order
 
   -- each is taken
   pub sent-taken : answers cs ≡ replicate count Taken
   sent-taken =
       calls-answers kept
-      ∙ ap (allAnswered (atFirst lent)) same-order
+      ∙ ap (allAnswered (atFirst 0 lent)) same-order
       ∙ Order.all-taken (blockSent template h grid) (cellsSent h grid) (λ c. firstRow (columnCells h grid c)) (headerSent h grid) layout lent room
       (startBy (cellsSent h grid) (columnsOf h)) (omega arith)
       ∙ ap (λ (n : ℕ). replicate n Taken) count-is
@@ -270,10 +270,10 @@ module _ (template : List ℕ) (g g′ : List ℤ) (can : CanBeSent template g) 
       ≡ take (cellsOf (headerOf template)) f
   back f able =
       let ds = inOrder (blockSent template (headerOf template) f) (blockCount (headerOf template) f) in
-      let cs = callsFor (atFirst g) ds in
-      let sent = calls-deliver (atFirst g) ds in
-      let kept : Fresh g cs = calls-kept (atFirst g) ds in
-      ap (λ (k : Desk). take (cellsOf (headerOf template)) (k .lent .grid)) (sym (calls-desk kept ∙ ap (afterAll (atFirst g)) sent))
+      let cs = callsFor (atFirst 0 g) ds in
+      let sent = calls-deliver (atFirst 0 g) ds in
+      let kept : Fresh 0 g cs = calls-kept (atFirst 0 g) ds in
+      ap (λ (k : Desk). take (cellsOf (headerOf template)) (k .lent .grid)) (sym (calls-desk kept ∙ ap (afterAll (atFirst 0 g)) sent))
       ∙ cells-back template f able (blockSent template (headerOf template) f) (λ b lt. refl) g (can .room) cs kept sent
 
   pub no-two-grids-alike : take (cellsOf (headerOf template)) g ≡ take (cellsOf (headerOf template)) g′

@@ -55,12 +55,12 @@ startBy cells (suc j) = startBy cells j + blocksFor (length (cells j))
 -- blocks `at` that hold, after a record A of header h, the profiles of these cells, each from a row on
 pub record Follows (at : ℕ → List ℕ) (cells : ℕ → List ℤ) (row : ℕ → ℕ) (h : Header) : Type 0 where
   pub header-is : headerOf (at 0) ≡ h
-  pub header-fine : faultOf (at 0) .kind ≡ 0
+  pub header-fine : faultOf 0 (at 0) .kind ≡ 0
   pub all-columns : h .profiles ≡ columnsOf h
   pub some-columns : 1 ≤ columnsOf h
   pub no-record-c : h .accuracy ≡ 0
   pub long : (b : ℕ) → b < startBy cells (columnsOf h) → length (at b) ≡ 1024
-  pub head-fine : (j : ℕ) → j < columnsOf h → headFault (suc j) (at (startBy cells j)) .kind ≡ 0
+  pub head-fine : (j : ℕ) → j < columnsOf h → headFault 0 (suc j) (at (startBy cells j)) .kind ≡ 0
   pub posts-are : (j : ℕ) → j < columnsOf h → headOf (at (startBy cells j)) .posts ≡ length (cells j)
   pub datum-zero : (j : ℕ) → j < columnsOf h → headOf (at (startBy cells j)) .datum ≡ pos 0
   pub least-is : (j : ℕ) → j < columnsOf h → headOf (at (startBy cells j)) .least ≡ leastStated (cells j)
@@ -121,7 +121,7 @@ module _ (at : ℕ → List ℕ) (cells : ℕ → List ℤ) (row : ℕ → ℕ) 
     pub below-n : c < n
     pub begins : start c ≤ k
     pub ends : k < start (suc c)
-    pub kept : firstBreach (textTo k) .kind ≡ 0
+    pub kept : firstBreach 0 (textTo k) .kind ≡ 0
     pub starts : (j : ℕ) → j ≤ c → startOf (textTo k) j ≡ start j
     pub done : (j : ℕ) → j < c → heightsIn (textTo k) j ≡ cells j
     pub so-far : heightsIn (textTo k) c ≡ take (roomIn (k - start c)) (cells c)
@@ -329,24 +329,24 @@ module _ (at : ℕ → List ℕ) (cells : ℕ → List ℤ) (row : ℕ → ℕ) 
     closing-due-kept =
         kept-both (when (isWhole more c) (closingRules more c)) (when (leb (endOf more) (blocksIn more)) (sheetRules more)) closing-kept sheet-kept
 
-    head-kept : start c ≡ k → headFault (suc c) (at k) .kind ≡ 0
-    head-kept e = ap (λ (b : ℕ). headFault (suc c) (at b) .kind) (sym e) ∙ w .head-fine c (s .below-n)
+    head-kept : start c ≡ k → headFault 0 (suc c) (at k) .kind ≡ 0
+    head-kept e = ap (λ (b : ℕ). headFault 0 (suc c) (at b) .kind) (sym e) ∙ w .head-fine c (s .below-n)
 
     -- block k breaks no rule behind the blocks before it
-    pub next-kept : firstBreach more .kind ≡ 0
+    pub next-kept : firstBreach 0 more .kind ≡ 0
     next-kept =
         by-test (ltb (start c) k)
         (λ t.
         let lt = ltb-true (start c) k t in
-        ap (λ (b : Breach). b .kind) (further-due text more (at k) k x some c here (s .kept) (omega (arith, lt, start-here)))
+        ap (λ (b : Breach). b .kind) (further-due 0 text more (at k) k x some c here (s .kept) (omega (arith, lt, start-here)))
         ∙ kept-both (blockRules more c (k - startOf text c)) (closingDue more c) block-kept closing-due-kept)
         (λ t.
         let e : start c ≡ k = omega (arith, ltb-false (start c) k t, s .begins) in
         let z : k - startOf text c ≡ 0 = omega (arith, e, start-here) in
         let first : Kept (blockRules more c 0) = ap (λ (q : ℕ). firstBroken (blockRules more c q) .kind) (sym z) ∙ block-kept in
-        ap (λ (b : Breach). b .kind) (opening-due text more (at k) k x some c here (s .kept) (start-here ∙ e))
-        ∙ kept-both (inBlock k (headFault (suc c) (at k)) ∷ []) (blockRules more c 0 ++ (placeRules more c ++ closingDue more c))
-        (kept-one (inBlock k (headFault (suc c) (at k))) (head-kept e))
+        ap (λ (b : Breach). b .kind) (opening-due 0 text more (at k) k x some c here (s .kept) (start-here ∙ e))
+        ∙ kept-both (inBlock k (headFault 0 (suc c) (at k)) ∷ []) (blockRules more c 0 ++ (placeRules more c ++ closingDue more c))
+        (kept-one (inBlock k (headFault 0 (suc c) (at k))) (head-kept e))
         (kept-both (blockRules more c 0) (placeRules more c ++ closingDue more c) first
         (kept-both (placeRules more c) (closingDue more c) place-kept closing-due-kept)))
 
@@ -416,8 +416,8 @@ module _ (at : ℕ → List ℕ) (cells : ℕ → List ℤ) (row : ℕ → ℕ) 
   one-within : 1 < start n
   one-within = omega (arith, start-orders 0 n (omega arith), w .some-columns)
 
-  first-kept : firstBreach (textTo 1) .kind ≡ 0
-  first-kept = first-due-kept (textTo 0) (textTo 1) (at 0) 0 (joins 0 (omega (arith, one-within))) refl (w .header-fine)
+  first-kept : firstBreach 0 (textTo 1) .kind ≡ 0
+  first-kept = first-due-kept 0 (textTo 0) (textTo 1) (at 0) 0 (joins 0 (omega (arith, one-within))) refl (w .header-fine)
 
   first-stage : Stage 1 0
   first-stage =
@@ -459,7 +459,7 @@ module _ (at : ℕ → List ℕ) (cells : ℕ → List ℤ) (row : ℕ → ℕ) 
           (λ e. let ne = eqb-false (suc c) n e in omega (arith, lt, ne))
 
   -- the first k blocks break no rule
-  pub prefix-kept : (k : ℕ) → k < start n → firstBreach (textTo (suc k)) .kind ≡ 0
+  pub prefix-kept : (k : ℕ) → k < start n → firstBreach 0 (textTo (suc k)) .kind ≡ 0
   prefix-kept zero lt = first-kept
   prefix-kept (suc k) lt = let r = reached k lt in next-kept (suc k) (r .profile) (r .stage)
 

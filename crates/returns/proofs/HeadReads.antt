@@ -153,7 +153,7 @@ module _ (h : Header) (grid : List ℤ) (c : ℕ) (fits : HeadFits h grid c) whe
       rw (posts, x, y, datum, low, high)
 
   -- every field without fault
-  fields-fine : firstOf (headFields (suc c) block) ≡ fault 0 0
+  fields-fine : firstOf (headFields 0 (suc c) block) ≡ fault 0 0
   fields-fine =
       let r = readings in
       rw (
@@ -170,6 +170,6 @@ module _ (h : Header) (grid : List ℤ) (c : ℕ) (fits : HeadFits h grid c) whe
         eq-eqb (ranged (limits 1 2048 1 7) (read (pos m)) .kind) 0 (in-range 1 2048 7 m (fits .some) (fits .most)),
       )
 
-  pub head-fine : AllSent (zOf h) (cellsSent h grid c) → headFault (suc c) (profileBlock h grid c 0) .kind ≡ 0
+  pub head-fine : AllSent (zOf h) (cellsSent h grid c) → headFault 0 (suc c) (profileBlock h grid c 0) .kind ≡ 0
   head-fine all =
       rw (eq-eqb (length block) 1024 (profile-length h grid c all (head-length h grid c fits) 0)) (ap (λ (f : Fault). f .kind) fields-fine)

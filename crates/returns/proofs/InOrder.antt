@@ -68,54 +68,54 @@ module _ (at : ℕ → List ℕ) (cells : ℕ → List ℤ) (row : ℕ → ℕ) 
   abbrev text : ℕ → List ℕ
   text k = textTo at cells row h w k
 
-  due : (k : ℕ) → k < count → Due (text k) lent (delivery at k)
+  due : (k : ℕ) → k < count → Due 0 (text k) lent (delivery at k)
   due k lt =
       let t = prefix-next at cells row h w k in
       let c : cellsIn (text (suc k)) ≡ cellsOf h = ap cellsOf (header-at at cells row h w (suc k) lt (omega arith)) in
       record {
         next = sym (prefix-blocks at cells row h w k (omega (arith, lt)));
         block = w .long k lt;
-        kept = ap (λ (l : List ℕ). firstBreach l .kind) (sym t) ∙ prefix-kept at cells row h w k lt;
+        kept = ap (λ (l : List ℕ). firstBreach 0 l .kind) (sym t) ∙ prefix-kept at cells row h w k lt;
         room = omega (arith, ap cellsIn t, c, room);
       }
 
-  stands : (k : ℕ) → textAfter (atFirst lent) (inOrder at k) ≡ text k → Stands (text k) lent (afterAll (atFirst lent) (inOrder at k))
-  stands k e = rw (← e) (stands-after lent (inOrder at k))
+  stands : (k : ℕ) → textAfter (atFirst 0 lent) (inOrder at k) ≡ text k → Stands 0 (text k) lent (afterAll (atFirst 0 lent) (inOrder at k))
+  stands k e = rw (← e) (stands-after 0 refl lent (inOrder at k))
 
   -- the next block is taken, behind the text of those before it
-  next-taken : (k : ℕ) → k < count → textAfter (atFirst lent) (inOrder at k) ≡ text k
-      → answered (afterAll (atFirst lent) (inOrder at k)) (delivery at k) ≡ Taken
+  next-taken : (k : ℕ) → k < count → textAfter (atFirst 0 lent) (inOrder at k) ≡ text k
+      → answered (afterAll (atFirst 0 lent) (inOrder at k)) (delivery at k) ≡ Taken
   next-taken k lt e =
       let there = stands k e in
-      answer-told (text k) lent (afterAll (atFirst lent) (inOrder at k)) there (delivery at k)
-      ∙ due-taken (text k) lent (there .good) (delivery at k) (due k lt)
+      answer-told 0 (text k) lent (afterAll (atFirst 0 lent) (inOrder at k)) there (delivery at k)
+      ∙ due-taken 0 (text k) lent (there .good) (delivery at k) (due k lt)
 
-  text-taken : (k : ℕ) → k ≤ count → textAfter (atFirst lent) (inOrder at k) ≡ text k
+  text-taken : (k : ℕ) → k ≤ count → textAfter (atFirst 0 lent) (inOrder at k) ≡ text k
   text-taken zero le = refl
   text-taken (suc k) le =
       let ds = inOrder at k in
       let before = text-taken k (omega (arith, le)) in
-      let taken : answered (afterAll (atFirst lent) ds) (delivery at k) ≡ Taken
+      let taken : answered (afterAll (atFirst 0 lent) ds) (delivery at k) ≡ Taken
       = next-taken k le before in
-      ap (textAfter (atFirst lent)) (in-order-more at k)
-      ∙ taken-more (atFirst lent) ds (delivery at k)
+      ap (textAfter (atFirst 0 lent)) (in-order-more at k)
+      ∙ taken-more (atFirst 0 lent) ds (delivery at k)
       ∙ ap₂ (λ (l : List ℕ) (a : Answer). l ++ bytesIf a (at k)) before taken
       ∙ sym (prefix-next at cells row h w k)
 
   -- every block is taken in its turn
-  pub each-taken : (k : ℕ) → k < count → answered (afterAll (atFirst lent) (inOrder at k)) (delivery at k) ≡ Taken
+  pub each-taken : (k : ℕ) → k < count → answered (afterAll (atFirst 0 lent) (inOrder at k)) (delivery at k) ≡ Taken
   each-taken k lt = next-taken k lt (text-taken k (omega (arith, lt)))
 
-  pub all-taken : (k : ℕ) → k ≤ count → allAnswered (atFirst lent) (inOrder at k) ≡ replicate k Taken
+  pub all-taken : (k : ℕ) → k ≤ count → allAnswered (atFirst 0 lent) (inOrder at k) ≡ replicate k Taken
   all-taken zero le = refl
   all-taken (suc k) le =
-      ap (allAnswered (atFirst lent)) (in-order-more at k)
-      ∙ answers-more (atFirst lent) (inOrder at k) (delivery at k)
+      ap (allAnswered (atFirst 0 lent)) (in-order-more at k)
+      ∙ answers-more (atFirst 0 lent) (inOrder at k) (delivery at k)
       ∙ ap₂ (λ (l : List Answer) (a : Answer). l ++ (a ∷ [])) (all-taken k (omega (arith, le))) (each-taken k le)
       ∙ replicate-more k Taken
 
   abbrev desk : Desk
-  desk = afterAll (atFirst lent) (inOrder at count)
+  desk = afterAll (atFirst 0 lent) (inOrder at count)
 
   some-blocks : 1 ≤ blocksIn (text count)
   some-blocks = omega (arith, prefix-blocks at cells row h w count (omega arith), begins (columnsOf h))
@@ -124,7 +124,7 @@ module _ (at : ℕ → List ℕ) (cells : ℕ → List ℤ) (row : ℕ → ℕ) 
       begins zero = omega arith
       begins (suc c) = omega (arith, begins c)
 
-  begun : sessionOf (text count) ≡ begunSession (text count)
+  begun : sessionOf 0 (text count) ≡ begunSession 0 (text count)
   begun =
       let e : eqb (blocksIn (text count)) 0 ≡ false = ne-eqb (blocksIn (text count)) 0 (λ z. omega (arith, z, some-blocks)) in rw e
 
@@ -141,16 +141,16 @@ module _ (at : ℕ → List ℕ) (cells : ℕ → List ℤ) (row : ℕ → ℕ) 
       let k = prefix-blocks at cells row h w count (omega arith) in
       let zero-long : length (at 0) ≡ 1024 = w .long 0 (omega (arith, k, some-blocks)) in
       let x = join-extends n (at 0) (blocksIn n) (text-length at cells row h w count (omega arith) ∙ ap (λ (m : ℕ). 1024 * m) (sym k)) zero-long in
-      let kept : firstBreach n .kind ≡ 0 = last-kept in
+      let kept : firstBreach 0 n .kind ≡ 0 = last-kept in
       ap complete (stands count t .session-is ∙ begun)
-      ∙ complete-is n (n ++ at 0) (at 0) (blocksIn n) x some-blocks kept
+      ∙ complete-is 0 n (n ++ at 0) (at 0) (blocksIn n) x some-blocks kept
       ∙ whole-complete at cells row h w
     where
-      last-kept : firstBreach (text count) .kind ≡ 0
+      last-kept : firstBreach 0 (text count) .kind ≡ 0
       last-kept =
           let k = prefix-blocks at cells row h w count (omega arith) in
           let e : suc (count - 1) ≡ count = omega (arith, k, some-blocks) in
-          ap (λ (m : ℕ). firstBreach (text m) .kind) (sym e) ∙ prefix-kept at cells row h w (count - 1) (omega (arith, e))
+          ap (λ (m : ℕ). firstBreach 0 (text m) .kind) (sym e) ∙ prefix-kept at cells row h w (count - 1) (omega (arith, e))
 
   -- every cell of the sheet is the one that the blocks hold
   pub each-cell : (j i : ℕ) → j < columnsOf h → i < rowsOf h

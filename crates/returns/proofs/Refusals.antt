@@ -84,7 +84,7 @@ module _ (template : List ℕ) (grid : List ℤ) (number bytes : ℕ) where
       let told : sentBy (first (objection kind byte) (numberObjection template grid number)) ≡ Refused kind byte = rw (k, k) in
       rw told (template-rule one long kind byte e)
   by-template one long (Sheet k) e =
-      let same : k ≡ headerOf template = sheet-header template e in
+      let same : k ≡ headerOf template = sheet-header 0 refl template e in
       rw same (by-grid one (e ∙ ap Sheet same))
 
   pub listed : Listed template grid number bytes (sentBy (blockObjection template grid number bytes))

@@ -110,9 +110,9 @@ module _ (template : List ℕ) (h : Header) (grid : List ℤ) (read : recordA te
         }
     head-here = ap headOf first-here ∙ head-is h grid c fits
 
-    head-good : headFault (suc c) (sent (startBy cells c)) .kind ≡ 0
+    head-good : headFault 0 (suc c) (sent (startBy cells c)) .kind ≡ 0
     head-good =
-        ap (λ (b : List ℕ). headFault (suc c) b .kind) first-here
+        ap (λ (b : List ℕ). headFault 0 (suc c) b .kind) first-here
         ∙ head-fine h grid c fits all-sent
 
   abbrev low : realFits 15 24 (leastStated (sheetCells h grid)) ≡ true
@@ -128,7 +128,7 @@ module _ (template : List ℕ) (h : Header) (grid : List ℤ) (read : recordA te
   follows =
       record {
         header-is = ap headerOf (zero-is template h grid) ∙ zero-header template h grid read low high;
-        header-fine = ap (λ (b : List ℕ). faultOf b .kind) (zero-is template h grid) ∙ zero-faultless template h grid read low high;
+        header-fine = ap (λ (b : List ℕ). faultOf 0 b .kind) (zero-is template h grid) ∙ zero-faultless template h grid read low high;
         all-columns = refl;
         some-columns = facts .columns .0;
         no-record-c = refl;

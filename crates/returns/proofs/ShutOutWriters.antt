@@ -19,7 +19,7 @@ use Rattle.frame.specs.Frame.{columnsOf, cellsOf, zOf}
 use Rattle.frame.specs.declared.Header.{Header}
 use Rattle.heading.specs.Heading.{headerOf, headerObeys}
 use Rattle.heading.proofs.HeadingFacts.{header-facts}
-use Rattle.sheet.specs.RecordA.{recordA, fields}
+use Rattle.sheet.specs.RecordA.{recordOf, usgsFront, back}
 use Rattle.sheet.proofs.SheetObeys.{sheet-obeys}
 use Rattle.session.specs.Session.{sound, complete}
 use Rattle.session.specs.declared.Session.{Session}
@@ -50,11 +50,11 @@ zeros = replicate 1024 0
 
 -- blocks 0 and 1 are accepted
 paper-fine0 : blockObjection paperA paperCells 0 1024 ≡ objection 0 0
-unfolding blockObjection sheetObjection recordA fields headerOf latticeOf integer real billionths places short paperA canSend sendable startAt profileCells upToLast voidsBefore
+unfolding blockObjection sheetObjection recordOf usgsFront back headerOf latticeOf integer real billionths places short paperA canSend sendable startAt profileCells upToLast voidsBefore
 paper-fine0 = refl
 
 paper-fine1 : blockObjection paperA paperCells 1 1024 ≡ objection 0 0
-unfolding blockObjection sheetObjection recordA fields headerOf latticeOf integer real billionths places short paperA canSend sendable startAt profileCells upToLast voidsBefore
+unfolding blockObjection sheetObjection recordOf usgsFront back headerOf latticeOf integer real billionths places short paperA canSend sendable startAt profileCells upToLast voidsBefore
 paper-fine1 = refl
 
 -- block 0 begins with the `P` of its name, block 1 with a blank

@@ -23,12 +23,12 @@ use Rattle.frame.specs.declared.Header.{Header}
 use Rattle.frame.specs.Frame.{columnsOf, rowsOf, oneTo2048, wholeFault}
 use Rattle.heading.specs.Heading.{zoneLimits, groundLimits, heightLimits, fieldsObey, headerObeys, headerOf}
 use Rattle.heading.proofs.HeadingFacts.{Ranged, Heading, header-facts, levelLimits, patternLimits, systemLimits, verticalLimits, sidesLimits, angleLimits, accuracyLimits, spacingLimits, rankLimits, profilesLimits}
-use Rattle.sheet.specs.RecordA.{Row, judgeRow, firstFault, recordA, row, fields, judge, faultOf}
+use Rattle.sheet.specs.RecordA.{Row, judgeRow, firstFault, recordA, row, usgsFront, back as backRows, fieldsOf, judge, faultOf}
 use Rattle.sheet.specs.declared.Checked.the-variants.{Sheet}
 use Rattle.sheet.specs.RecordA.Rule.{words, form}
-use Rattle.sheet.specs.RecordASteps.{placeOf, rowFrom}
+use Rattle.sheet.specs.RecordASteps.{placeIn}
 use Rattle.sheet.proofs.RulesA.{sheet-exactly, sheet-fine}
-use Rattle.sheet.proofs.HeaderA.{field-fine, verdict-sheet}
+use Rattle.sheet.proofs.HeaderA.{backRow, field-fine, verdict-sheet}
 use Rattle.sheet.proofs.SheetObeys.{sheet-obeys}
 use Rattle.ground.specs.Extremes.{leastStated, greatestStated}
 use Rattle.spell.specs.Spell.{realFits}
@@ -97,18 +97,21 @@ shared a b first most k width h e =
 
 pub data Reads (block : List ℕ) : List Row → Type 0 where
   done : Reads block []
-  reads : {r : Row} {rs : List Row} → judgeRow block r .kind ≡ 0 → Reads block rs → Reads block (r ∷ rs)
+  reads : {r : Row} {rs : List Row} → judgeRow 0 block r .kind ≡ 0 → Reads block rs → Reads block (r ∷ rs)
 
-reads-fine : (block : List ℕ) (rs : List Row) → Reads block rs → firstFault block rs .kind ≡ 0
+reads-fine : (block : List ℕ) (rs : List Row) → Reads block rs → firstFault 0 block rs .kind ≡ 0
 reads-fine block [] done = refl
-reads-fine block (r ∷ rs) (reads z a) = rw (eq-eqb (judgeRow block r .kind) 0 z) (reads-fine block rs a)
+reads-fine block (r ∷ rs) (reads z a) = rw (eq-eqb (judgeRow 0 block r .kind) 0 z) (reads-fine block rs a)
 
-fine-reads : (block : List ℕ) (rs : List Row) → firstFault block rs .kind ≡ 0 → Reads block rs
+fine-reads : (block : List ℕ) (rs : List Row) → firstFault 0 block rs .kind ≡ 0 → Reads block rs
 fine-reads block [] z = done
 fine-reads block (r ∷ rs) z =
     let i = fine-reads block rs in
-    by-test (eqb (judgeRow block r .kind) 0) (λ e. reads (eqb-true (judgeRow block r .kind) 0 e) (i (rw e at z)))
-    (λ e. absurd (eqb-false (judgeRow block r .kind) 0 e (rw e at z)))
+    by-test (eqb (judgeRow 0 block r .kind) 0) (λ e. reads (eqb-true (judgeRow 0 block r .kind) 0 e) (i (rw e at z)))
+    (λ e. absurd (eqb-false (judgeRow 0 block r .kind) 0 e (rw e at z)))
+
+reads-first : {block : List ℕ} {r : Row} {rs : List Row} → Reads block (r ∷ rs) → judgeRow 0 block r .kind ≡ 0
+reads-first (reads z a) = z
 
 reads-behind : (block : List ℕ) (rs : List Row) (i : ℕ) → Reads block rs → Reads block (drop i rs)
 reads-behind block rs zero a = a
@@ -116,7 +119,7 @@ reads-behind block [] (suc i) done = done
 reads-behind block (r ∷ rs) (suc i) (reads z a) = reads-behind block rs i a
 
 pub template-length : (template : List ℕ) (h : Header) → recordA template ≡ Sheet h → length template ≡ 1024
-template-length template h is = sheet-exactly template .0 (h, is) .0
+template-length template h is = sheet-exactly 0 refl template .0 (h, is) .0
 
 -- what stands in its limits is read
 ranged-read : (l : Limits) (v : ℕ) (r : Reading) → r ≡ read (pos v) → inRange l v ≡ true → ranged l r .kind ≡ 0
@@ -162,8 +165,8 @@ module _ (template : List ℕ) (h : Header) (grid : List ℤ) (is : recordA temp
   heading : Heading h
   heading = header-facts h obeys
 
-  template-reads : Reads template fields
-  template-reads = fine-reads template fields (sheet-fine template is)
+  template-reads : Reads template (fieldsOf 0)
+  template-reads = fine-reads template (fieldsOf 0) (sheet-fine 0 refl template is)
 
   fit : all pieceFits ps ≡ true
   fit = all-fit h (leastStated (sheetCells h grid)) (greatestStated (sheetCells h grid)) (columnsOf h) obeys fl fg (heading .columns .1)
@@ -193,8 +196,8 @@ module _ (template : List ℕ) (h : Header) (grid : List ℤ) (is : recordA temp
   unfolding piecesBy
   vertical-is = ap number (back 535 (lit< tt))
 
-  template-field : (first : ℕ) → placeOf first < 41 → judgeRow template (rowFrom first) .kind ≡ 0
-  template-field = field-fine template (sheet-fine template is)
+  template-field : (first : ℕ) → placeIn first backRows < 40 → judgeRow 0 template (backRow first) .kind ≡ 0
+  template-field = field-fine 0 template (sheet-fine 0 refl template is)
 
   forms-read : (n first : ℕ) (rs : List Row) → 169 ≤ first → first + n * 24 ≤ 529
       → Reads template (forms n first ++ rs) → Reads sent rs → Reads sent (forms n first ++ rs)
@@ -206,23 +209,23 @@ module _ (template : List ℕ) (h : Header) (grid : List ℤ) (is : recordA temp
       let same : stretch first 24 sent ≡ stretch first 24 template =
       rw e (shared sent template 168 360 k 24 (omega (arith, a, b)) (back 169 (lit< tt)))
       in
-      reads (ap (λ (f : List ℕ). judge form 0 0 f .kind) same ∙ z)
+      reads (ap (λ (f : List ℕ). judge 0 form 0 0 f .kind) same ∙ z)
       (forms-read n (first + 24) rs (omega (arith, a)) (omega (arith, b)) t s)
 
   abbrev kindOf : Reading → ℕ
   kindOf r = r .kind
 
-  rows-read : Reads sent fields
-  unfolding fields piecesBy
+  rows-read : Reads sent (fieldsOf 0)
+  unfolding usgsFront backRows piecesBy
   rows-read =
-      reads (ap (λ (f : List ℕ). judge words 0 0 f .kind) (back 1 (lit< tt)) ∙ template-field 1 (lit< tt))
+      reads (ap (λ (f : List ℕ). judge 0 words 0 0 f .kind) (back 1 (lit< tt)) ∙ reads-first template-reads)
       (reads (limits-read levelLimits (h .level) _ (back 145 (lit< tt)) (heading .level))
       (reads (ranged-read patternLimits 1 _ (back 151 (lit< tt)) refl)
       (reads (limits-read systemLimits (h .system) _ (back 157 (lit< tt)) (heading .system))
       (reads
       (ap (λ (s : ℕ). ranged (zoneLimits s) (integer (stretch 163 6 sent)) .kind) system-is
       ∙ ranged-read (zoneLimits (h .system)) (h .zone) _ (back 163 (lit< tt)) (heading .zone))
-      (forms-read 15 169 _ (omega arith) (omega arith) (reads-behind template fields (placeOf 169) template-reads)
+      (forms-read 15 169 _ (omega arith) (omega arith) (reads-behind template (fieldsOf 0) (placeIn 169 (fieldsOf 0)) template-reads)
       (reads
       (ap (λ (s : ℕ). ranged (groundLimits s) (integer (stretch 529 6 sent)) .kind) system-is
       ∙ ranged-read (groundLimits (h .system)) (h .ground) _ (back 529 (lit< tt)) (heading .ground))
@@ -247,7 +250,7 @@ module _ (template : List ℕ) (h : Header) (grid : List ℤ) (is : recordA temp
       ∙ ranged-read (heightLimits (h .vertical)) (h .zstep) _ (back 841 (lit< tt)) (height-limits h obeys))
       (reads (ranged-read rankLimits 1 _ (back 853 (lit< tt)) refl)
       (reads (limits-read profilesLimits (columnsOf h) _ (back 859 (lit< tt)) (record { least = heading .columns .0; greatest = heading .columns .1; step = omega arith }))
-      (reads (ap (λ (f : List ℕ). judge words 0 0 f .kind) (back 865 (lit< tt)) ∙ template-field 865 (lit< tt))
+      (reads (ap (λ (f : List ℕ). judge 0 words 0 0 f .kind) (back 865 (lit< tt)) ∙ template-field 865 (lit< tt))
       done))))))))))))))))))))))))))
 
   -- ---- the header, and the whole record
@@ -284,14 +287,14 @@ module _ (template : List ℕ) (h : Header) (grid : List ℤ) (is : recordA temp
       let c = le-leb (columnsOf h) (columnsOf h) (omega arith) in
       rw (a, b, c)
 
-  pub zero-fine : firstFault (blockZero template h grid) fields .kind ≡ 0
-  zero-fine = reads-fine sent fields rows-read
+  pub zero-fine : firstFault 0 (blockZero template h grid) (fieldsOf 0) .kind ≡ 0
+  zero-fine = reads-fine sent (fieldsOf 0) rows-read
 
   pub zero-whole : wholeFault (headerOf (blockZero template h grid)) .kind ≡ 0
   zero-whole = ap (λ (x : Header). wholeFault x .kind) zero-header ∙ sent-whole
 
-  pub zero-faultless : faultOf (blockZero template h grid) .kind ≡ 0
-  zero-faultless = rw (eq-eqb (length sent) 1024 long, eq-eqb (firstFault sent fields .kind) 0 zero-fine) zero-whole
+  pub zero-faultless : faultOf 0 (blockZero template h grid) .kind ≡ 0
+  zero-faultless = rw (eq-eqb (length sent) 1024 long, eq-eqb (firstFault 0 sent (fieldsOf 0) .kind) 0 zero-fine) zero-whole
 
   pub zero-reads : recordA (blockZero template h grid) ≡ Sheet (headerSent h grid)
-  zero-reads = sym (verdict-sheet sent long zero-fine zero-whole) ∙ ap Sheet zero-header
+  zero-reads = sym (verdict-sheet 0 sent long refl zero-fine refl zero-whole) ∙ ap Sheet zero-header

@@ -5,8 +5,8 @@ use Prim.Native.Nat.{_≤_}
 use native.Mathlib.Omega.{arith}
 use Rattle.laws.specs.Sign.{implies, _and_}
 use Rattle.laws.proofs.Tests.{and-first, and-second, asked}
-use Rattle.heading.specs.Heading.{headerObeys}
-use Rattle.heading.proofs.HeadingFacts.{header-facts}
+use Rattle.heading.specs.Heading.{familyObeys}
+use Rattle.heading.proofs.HeadingFacts.{family-facts}
 use Rattle.session.specs.declared.Session.{Session}
 use Rattle.session.specs.Session.{busy, openRead, openBlocks, profileObeys, closedObeys, columnObeys, finishObeys, begunObeys}
 use Rattle.session.specs.Steps.{Bounded, placesObey, countsObey}
@@ -21,7 +21,7 @@ blocks-few s h = go (busy s) refl
         rw e (omega arith)
     go false e = rw e (omega arith)
 
-pub read-few : (s : Session) (h : busy s ≡ true → Profiling (s .header) (s .profile)) → openRead s ≤ 2048
+pub read-few : (s : Session) (h : busy s ≡ true → Profiling (s .family) (s .header) (s .profile)) → openRead s ≤ 2048
 read-few s h = go (busy s) refl
   where
     go : (b : Bool) → busy s ≡ b → openRead s ≤ 2048
@@ -32,15 +32,15 @@ read-few s h = go (busy s) refl
 
 pub places-bound : (s : Session) → placesObey s ≡ true → Bounded s
 places-bound s t =
-    let header = header-facts (s .header) (and-first (headerObeys (s .header)) _ t) in
-    let t2 = and-second (headerObeys (s .header)) _ t in
+    let header = family-facts (s .family) (s .header) (and-first (familyObeys (s .family) (s .header)) _ t) in
+    let t2 = and-second (familyObeys (s .family) (s .header)) _ t in
     let closed = closed-facts s (and-first (closedObeys s) _ t2) in
     let t3 = and-second (closedObeys s) _ t2 in
-    let p = implies (busy s) (profileObeys (s .header) (s .profile)) in
+    let p = implies (busy s) (profileObeys (s .family) (s .header) (s .profile)) in
     let t5 = and-second (columnObeys s) _ (and-second p _ t3) in
     record {
       closed = omega arith;
-      read = read-few s (λ b. profile-facts (s .header) (s .profile) (asked (busy s) _ (and-first p _ t3) b));
+      read = read-few s (λ b. profile-facts (s .family) (s .header) (s .profile) (asked (busy s) _ (and-first p _ t3) b));
       finished = finish-facts s t5 .0;
     }
 
@@ -55,6 +55,6 @@ five false b c d e r = refl
 
 pub halves : (s : Session) → (placesObey s and countsObey s) ≡ begunObeys s
 halves s =
-    five (headerObeys (s .header)) (closedObeys s) (implies (busy s) (profileObeys (s .header) (s .profile))) (columnObeys s)
+    five (familyObeys (s .family) (s .header)) (closedObeys s) (implies (busy s) (profileObeys (s .family) (s .header) (s .profile))) (columnObeys s)
     (finishObeys s)
     (countsObey s)

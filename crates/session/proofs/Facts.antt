@@ -6,22 +6,37 @@ use lib.IntN.{natAbs, ℤ}
 use borrow.Author.Tests.{leb-true, ltb-true, eqb-true, le-leb, lt-ltb, eq-eqb}
 use lib.Dec.{leb, eqb, ltb}
 use lib.Signed.{leZ}
+use native.Mathlib.Nat.{le-trans}
+use native.Mathlib.Omega.{arith}
+use Rattle.laws.specs.Family.{isCanadian}
 use Rattle.laws.specs.Sign.{implies}
-use Rattle.laws.proofs.Tests.{split, and-both, asked, unasked, either-second, either-cases, either-first}
+use Rattle.laws.proofs.Tests.{either, split, and-both, asked, unasked, either-second, either-cases, either-first}
+use Rattle.field.specs.Field.{inRange, limits, postsLimits}
+use Rattle.field.specs.declared.Limits.{Limits}
 use Rattle.frame.specs.Frame.{rowsOf, columnsOf}
 use Rattle.frame.specs.declared.Header.{Header}
-use Rattle.heading.specs.Heading.{isRealNumber, headerObeys}
+use Rattle.heading.specs.Heading.{isRealNumber, familyObeys}
 use Rattle.session.specs.declared.Profile.{Profile}
 use Rattle.session.specs.Session.{profileObeys, extremesObey, busy, openRead, openBlocks, closedObeys, columnObeys, postsObey, finishObeys, takenObeys, begunObeys}
 use Rattle.session.specs.declared.Session.{Session}
 
--- ---- a joined test taken apart, and one that is asked only where another holds
-
--- ---- the header
-
 -- ---- the open profile
 
-pub record Profiling (h : Header) (p : Profile) : Type 0 where
+-- posts in the limits of either family are 2,048 at most
+range-most : (l : Limits) (v : ℕ) → l .greatest ≤ 2048 → inRange l v ≡ true → v ≤ 2048
+range-most l v h t =
+    let a = split (leb (l .least) v) _ t in
+    let b = split (leb v (l .greatest)) _ (a .1) in
+    le-trans (leb-true v (l .greatest) (b .0)) h
+
+posts-most : (family v : ℕ) → inRange (postsLimits family) v ≡ true → v ≤ 2048
+posts-most family v =
+    either (λ l. inRange l v ≡ true → v ≤ 2048) (isCanadian family) (range-most (limits 1201 1201 1 7) v (omega arith))
+    (range-most (limits 1 2048 1 7) v (omega arith))
+
+-- the posts are those that a sheet of the family has, 1,201 in a Canadian one, and so 2,048 at most
+pub record Profiling (family : ℕ) (h : Header) (p : Profile) : Type 0 where
+  pub range : inRange (postsLimits family) (p .posts) ≡ true
   pub posts : p .posts ≤ 2048
   pub room : p .row + p .posts ≤ rowsOf h
   pub datum : natAbs (p .datum) ≤ 1000000
@@ -31,9 +46,9 @@ pub record Profiling (h : Header) (p : Profile) : Type 0 where
   pub step : (p .read - 146) % 170 ≡ 0
   pub more : p .read < p .posts
 
-pub profile-facts : (h : Header) (p : Profile) → profileObeys h p ≡ true → Profiling h p
-profile-facts h p t =
-    let posts = split (leb (p .posts) 2048) _ t in
+pub profile-facts : (family : ℕ) (h : Header) (p : Profile) → profileObeys family h p ≡ true → Profiling family h p
+profile-facts family h p t =
+    let posts = split (inRange (postsLimits family) (p .posts)) _ t in
     let room = split (leb (p .row + p .posts) (rowsOf h)) _ (posts .1) in
     let datum = split (leb (natAbs (p .datum)) 1000000) _ (room .1) in
     let least = split (isRealNumber (p .least)) _ (datum .1) in
@@ -41,7 +56,8 @@ profile-facts h p t =
     let first = split (leb 146 (p .read)) _ (greatest .1) in
     let step = split (eqb ((p .read - 146) % 170) 0) _ (first .1) in
     record {
-      posts = leb-true (p .posts) 2048 (posts .0);
+      range = posts .0;
+      posts = posts-most family (p .posts) (posts .0);
       room = leb-true (p .row + p .posts) (rowsOf h) (room .0);
       datum = leb-true (natAbs (p .datum)) 1000000 (datum .0);
       least = least .0;
@@ -51,9 +67,9 @@ profile-facts h p t =
       more = ltb-true (p .read) (p .posts) (step .1);
     }
 
-pub facts-profile : (h : Header) (p : Profile) → Profiling h p → profileObeys h p ≡ true
-facts-profile h p f =
-    and-both (le-leb (p .posts) 2048 (f .posts))
+pub facts-profile : (family : ℕ) (h : Header) (p : Profile) → Profiling family h p → profileObeys family h p ≡ true
+facts-profile family h p f =
+    and-both (f .range)
     (and-both (le-leb (p .row + p .posts) (rowsOf h) (f .room))
     (and-both (le-leb (natAbs (p .datum)) 1000000 (f .datum))
     (and-both (f .least)
@@ -89,10 +105,10 @@ facts-extremes filled low high f =
 -- ---- the session
 
 pub record Begun (s : Session) : Type 0 where
-  pub header : headerObeys (s .header) ≡ true
+  pub header : familyObeys (s .family) (s .header) ≡ true
   pub closed : s .closed ≤ s .header .profiles
   pub below : busy s ≡ true → s .closed < s .header .profiles
-  pub profile : busy s ≡ true → Profiling (s .header) (s .profile)
+  pub profile : busy s ≡ true → Profiling (s .family) (s .header) (s .profile)
   pub column-open : busy s ≡ true → s .column + s .header .profiles ≤ columnsOf (s .header)
   pub column-closed : 0 < s .closed → s .column + s .header .profiles ≤ columnsOf (s .header)
   pub finished : s .finished ≤ 1
@@ -133,9 +149,9 @@ module _ (s : Session) where
 
   pub begun-facts : begunObeys s ≡ true → Begun s
   begun-facts t =
-      let header = split (headerObeys (s .header)) _ t in
+      let header = split (familyObeys (s .family) (s .header)) _ t in
       let closed = split (closedObeys s) _ (header .1) in
-      let profile = split (implies (busy s) (profileObeys (s .header) (s .profile))) _ (closed .1) in
+      let profile = split (implies (busy s) (profileObeys (s .family) (s .header) (s .profile))) _ (closed .1) in
       let column = split (columnObeys s) _ (profile .1) in
       let finish = split (finishObeys s) _ (column .1) in
       let posts = split (postsObey s) _ (finish .1) in
@@ -150,7 +166,7 @@ module _ (s : Session) where
         header = header .0;
         closed = closed-facts (closed .0) .0;
         below = closed-facts (closed .0) .1;
-        profile = λ b. profile-facts (s .header) (s .profile) (asked (busy s) _ (profile .0) b);
+        profile = λ b. profile-facts (s .family) (s .header) (s .profile) (asked (busy s) _ (profile .0) b);
         column-open = λ b. column-facts (column .0) (either-first (busy s) _ b);
         column-closed = λ h. column-facts (column .0) (either-second (busy s) _ (lt-ltb 0 (s .closed) h));
         finished = finish-facts (finish .0) .0;
@@ -173,7 +189,7 @@ module _ (s : Session) where
       (and-both
       (and-both (le-leb (s .closed) (s .header .profiles) (f .closed))
       (unasked (busy s) _ (λ b. lt-ltb (s .closed) (s .header .profiles) (f .below b))))
-      (and-both (unasked (busy s) _ (λ b. facts-profile (s .header) (s .profile) (f .profile b)))
+      (and-both (unasked (busy s) _ (λ b. facts-profile (s .family) (s .header) (s .profile) (f .profile b)))
       (and-both
       (unasked (cond (busy s) true (ltb 0 (s .closed))) _
       (λ h.

@@ -5,6 +5,10 @@ use Rattle.session.proofs.is_complete.Reads as is-complete·told
 use Rattle.session.proofs.is_sound.Reads as is-sound·told
 use Rattle.session.proofs.new.Reads as new·told
 use Rattle.session.proofs.open_blocks.Reads as open-blocks·told
+use Rattle.session.proofs.opened.Reads as opened·told
+
+pub opened : OneResult opened·told.Learnt
+opened κs a z z′ e e′ p q = one-answer p q
 
 pub new : OneResult new·told.Learnt
 new κs a z z′ e e′ p q = one-answer p q

@@ -4,15 +4,16 @@ use mathlib.Core.Path.{_≡_, ap, refl}
 use borrow.Author.Tests.{eqb-true}
 use lib.Dec.{eqb}
 use mathlib.Core.Logic.{_↔_}
-use Prim.Native.Nat.{_≤_}
+use Prim.Native.Nat.{ℕ, _≤_}
 use native.Mathlib.Omega.{arith}
+use Rattle.laws.specs.Family.{known}
 use Rattle.laws.specs.Sign.{isZero}
-use Rattle.laws.proofs.Tests.{split}
+use Rattle.laws.proofs.Tests.{split, either, either-cases, and-first, and-second, and-both}
 use Rattle.heading.specs.Heading.{zeroHeader}
 use Rattle.heading.proofs.Fresh.{is-zero, header-is}
-use Rattle.heading.proofs.HeadingFacts.{Heading, header-facts}
+use Rattle.heading.proofs.HeadingFacts.{Framed, family-facts}
 use Rattle.session.specs.declared.Profile.{Profile}
-use Rattle.session.specs.Session.{noProfile, zeroProfile, fresh, isFresh, sound, begunObeys, busy, openRead, openBlocks}
+use Rattle.session.specs.Session.{noProfile, zeroProfile, opened, fresh, isFresh, sound, begunObeys, busy, openRead, openBlocks}
 use Rattle.session.specs.declared.Session.{Session}
 use Rattle.session.proofs.Facts.{begun-facts, Begun}
 use Rattle.session.proofs.Bounds.{read-few, blocks-few}
@@ -42,7 +43,8 @@ profile-is p t =
       high = is-zero (p .high) (low .1) j;
     }
 
-fresh-is : (s : Session) → isFresh s ≡ true → s ≡ fresh
+-- but for the family, which any fresh session has
+fresh-is : (s : Session) → isFresh s ≡ true → s ≡ opened (s .family)
 fresh-is s t =
     let header = split (zeroHeader (s .header)) _ t in
     let taken = split (eqb (s .taken) 0) _ (header .1) in
@@ -67,32 +69,33 @@ fresh-is s t =
       finished = eqb-true (s .finished) 0 (finished .0) j;
       profile = profile-is (s .profile) (profile .0) j;
       sum = is-zero (s .sum) (profile .1) j;
+      family = s .family;
     }
 
-pub fresh-exactly : (s : Session) → (isFresh s ≡ true) ↔ (s ≡ fresh)
+pub fresh-exactly : (s : Session) → (isFresh s ≡ true) ↔ (s ≡ opened (s .family))
 fresh-exactly s = (fresh-is s, λ e. ap isFresh e)
 
+-- ---- fresh or begun, and of a family that we know
+
+pub opened-sound : (family : ℕ) → known family ≡ true → sound (opened family) ≡ true
+unfolding sound
+opened-sound family k = rw k
+
 pub fresh-sound : sound fresh ≡ true
-unfolding sound
-fresh-sound = refl
+fresh-sound = opened-sound 0 refl
 
--- ---- fresh or begun
-
-pub begun-sound : (s : Session) → begunObeys s ≡ true → sound s ≡ true
+pub begun-sound : (s : Session) → known (s .family) ≡ true → begunObeys s ≡ true → sound s ≡ true
 unfolding sound
-begun-sound s t = go (isFresh s) refl
-  where
-    go : (b : Bool) → isFresh s ≡ b → sound s ≡ true
-    go true e = rw e
-    go false e = rw e t
+begun-sound s k t = and-both k (either (λ (b : Bool). b ≡ true) (isFresh s) refl t)
 
-pub fresh-or-begun {ℓ} : {X : Type ℓ} (s : Session) → sound s ≡ true → (s ≡ fresh → X) → (begunObeys s ≡ true → X) → X
+pub sound-known : (s : Session) → sound s ≡ true → known (s .family) ≡ true
 unfolding sound
-fresh-or-begun {X = X} s t f g = go (isFresh s) refl
-  where
-    go : (b : Bool) → isFresh s ≡ b → X
-    go true e = f (fresh-is s e)
-    go false e = g (rw e at t)
+sound-known s t = and-first (known (s .family)) _ t
+
+pub fresh-or-begun {ℓ} : {X : Type ℓ} (s : Session) → sound s ≡ true → (s ≡ opened (s .family) → X) → (begunObeys s ≡ true → X) → X
+unfolding sound
+fresh-or-begun s t f g =
+    either-cases (isFresh s) (begunObeys s) (and-second (known (s .family)) _ t) (λ e. f (fresh-is s e)) g
 
 pub not-fresh-taken : (s : Session) → begunObeys s ≡ true → 1 ≤ s .taken
 not-fresh-taken s t =
@@ -107,7 +110,7 @@ sound-begun s t h =
     absurd (omega arith))
     (λ b. b)
 
-pub untaken-fresh : (s : Session) → sound s ≡ true → s .taken ≡ 0 → s ≡ fresh
+pub untaken-fresh : (s : Session) → sound s ≡ true → s .taken ≡ 0 → s ≡ opened (s .family)
 untaken-fresh s t z = fresh-or-begun s t (λ e. e) (λ b. absurd (omega (arith, not-fresh-taken s b)))
 
 -- ---- "So taken never passes 26,626, nor posts 4,194,304."
@@ -115,9 +118,9 @@ untaken-fresh s t z = fresh-or-begun s t (λ e. e) (λ b. absurd (omega (arith, 
 begun-bounds : (s : Session) → begunObeys s ≡ true → (s .taken ≤ 26626) × (s .posts ≤ 4194304)
 begun-bounds s b =
     let f = begun-facts s b in
-    go f (header-facts (s .header) (f .header)) (busy s) refl
+    go f (family-facts (s .family) (s .header) (f .header)) (busy s) refl
   where
-    go : Begun s → Heading (s .header) → (t : Bool) → busy s ≡ t → (s .taken ≤ 26626) × (s .posts ≤ 4194304)
+    go : Begun s → Framed (s .header) → (t : Bool) → busy s ≡ t → (s .taken ≤ 26626) × (s .posts ≤ 4194304)
     go f h true e =
         let below = f .below e in
         let read = read-few s (f .profile) in

@@ -1,13 +1,15 @@
--- Document 01, "What a delivery answers": the session, the fresh one, and when a session is sound.
+-- Document 01, "What a delivery answers", and 02, requests 1 and 2: the session, the fresh one, and when a session is sound.
 use lib.IntN.{pos, natAbs, ℤ}
 use Prim.Native.Nat.{ℕ, _+_, _-_, _%_, _/_, _*_}
 use mathlib.Core.Bool.{Bool, not, cond, true}
 use lib.Dec.{eqb, leb, ltb}
 use lib.Signed.{leZ}
+use Rattle.laws.specs.Family.{known}
 use Rattle.laws.specs.Sign.{isZero, _and_, implies}
+use Rattle.field.specs.Field.{inRange, postsLimits}
 use Rattle.frame.specs.declared.Header.{Header}
 use Rattle.frame.specs.Frame.{rowsOf, columnsOf}
-use Rattle.heading.specs.Heading.{freshHeader, zeroHeader, isRealNumber, headerObeys}
+use Rattle.heading.specs.Heading.{freshHeader, zeroHeader, isRealNumber, familyObeys}
 use Rattle.session.specs.declared.Profile.{Profile}
 use Rattle.session.specs.declared.Session.{Session}
 
@@ -18,9 +20,9 @@ abbrev pub noProfile : Profile
 noProfile =
     record { posts = 0; row = 0; datum = pos 0; least = pos 0; greatest = pos 0; read = 0; filled = 0; low = pos 0; high = pos 0 }
 
--- so many blocks taken, and nothing read of a profile
-abbrev pub unread : Header → ℕ → Session
-unread h taken =
+-- so many blocks taken of a family's sheet, and nothing read of a profile
+abbrev pub unread : ℕ → Header → ℕ → Session
+unread family h taken =
     record {
       header = h;
       taken = taken;
@@ -33,16 +35,23 @@ unread h taken =
       finished = 0;
       profile = noProfile;
       sum = pos 0;
+      family = family;
     }
 
+-- 02, request 2: "The caller names the family when opening a session; a fresh session has all else zero"
+abbrev pub opened : ℕ → Session
+opened family = unread family freshHeader 0
+
+-- of USGS sheets: family 0, so all fields are zero
 abbrev pub fresh : Session
-fresh = unread freshHeader 0
+fresh = opened 0
 
 abbrev pub zeroProfile : Profile → Bool
 zeroProfile p =
     eqb (p .posts) 0 and eqb (p .row) 0 and isZero (p .datum) and isZero (p .least) and isZero (p .greatest)
     and eqb (p .read) 0 and eqb (p .filled) 0 and isZero (p .low) and isZero (p .high)
 
+-- whatever the family
 abbrev pub isFresh : Session → Bool
 isFresh s =
     zeroHeader (s .header) and eqb (s .taken) 0 and eqb (s .closed) 0 and eqb (s .posts) 0 and eqb (s .filled) 0
@@ -55,10 +64,10 @@ isFresh s =
 abbrev pub busy : Session → Bool
 busy s = not (eqb (s .profile .posts) 0)
 
--- "an open profile's numbers": those of a head that record B would take at its place, with 146 + 170k of its m posts read
-abbrev pub profileObeys : Header → Profile → Bool
-profileObeys h p =
-    leb (p .posts) 2048 and leb (p .row + p .posts) (rowsOf h) and leb (natAbs (p .datum)) 1000000
+-- "an open profile's numbers": those of a head that record B of the family would take at its place, with 146 + 170k of its m posts read
+abbrev pub profileObeys : ℕ → Header → Profile → Bool
+profileObeys family h p =
+    inRange (postsLimits family) (p .posts) and leb (p .row + p .posts) (rowsOf h) and leb (natAbs (p .datum)) 1000000
     and isRealNumber (p .least) and isRealNumber (p .greatest)
     and leb 146 (p .read) and eqb ((p .read - 146) % 170) 0 and ltb (p .read) (p .posts)
 
@@ -108,12 +117,14 @@ takenObeys s =
 
 abbrev pub begunObeys : Session → Bool
 begunObeys s =
-    headerObeys (s .header) and closedObeys s and implies (busy s) (profileObeys (s .header) (s .profile)) and columnObeys s
+    familyObeys (s .family) (s .header) and closedObeys s
+    and implies (busy s) (profileObeys (s .family) (s .header) (s .profile)) and columnObeys s
     and finishObeys s and postsObey s and takenObeys s and extremesObey (s .filled) (s .low) (s .high)
     and implies (busy s) (extremesObey (s .profile .filled) (s .profile .low) (s .profile .high)) and sumObeys (s .filled) (s .sum)
 
+-- 02, request 2: "a family we don't know is unsound"
 unfoldable pub sound : Session → Bool
-sound s = cond (isFresh s) true (begunObeys s)
+sound s = known (s .family) and cond (isFresh s) true (begunObeys s)
 
 -- "sheet complete": block 0 taken, n closed and, with accuracy 1, record C taken
 abbrev pub complete : Session → Bool
@@ -121,6 +132,6 @@ complete s =
     not (eqb (s .taken) 0) and eqb (s .closed) (s .header .profiles)
     and cond (eqb (s .header .accuracy) 1) (eqb (s .finished) 1) true
 
--- after block 0: its header, taken 1, all else zero
-abbrev pub begun : Header → Session
-begun h = unread h 1
+-- after block 0: the family, its header, taken 1, all else zero
+abbrev pub begun : ℕ → Header → Session
+begun family h = unread family h 1

@@ -3,7 +3,7 @@ use mathlib.Core.Bool.{Bool}
 use Prim.Native.Nat.{_-_, _%_, _≤_}
 use lib.Dec.{leb, ltb, eqb}
 use Rattle.laws.specs.Sign.{_and_, implies}
-use Rattle.heading.specs.Heading.{headerObeys}
+use Rattle.heading.specs.Heading.{familyObeys}
 use Rattle.session.specs.declared.Profile.{Profile}
 use Rattle.session.specs.declared.Session.{Session}
 use Rattle.session.specs.Session.{busy, closedObeys, profileObeys, columnObeys, finishObeys, postsObey, takenObeys, extremesObey, sumObeys, openRead}
@@ -14,8 +14,8 @@ readObeys p = leb 146 (p .read) and eqb ((p .read - 146) % 170) 0 and ltb (p .re
 -- the clauses up to record C's, and those that add up
 abbrev pub placesObey : Session → Bool
 placesObey s =
-    headerObeys (s .header) and closedObeys s and implies (busy s) (profileObeys (s .header) (s .profile)) and columnObeys s
-    and finishObeys s
+    familyObeys (s .family) (s .header) and closedObeys s
+    and implies (busy s) (profileObeys (s .family) (s .header) (s .profile)) and columnObeys s and finishObeys s
 
 abbrev pub countsObey : Session → Bool
 countsObey s =

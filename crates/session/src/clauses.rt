@@ -31,8 +31,8 @@ fn read_obeys(p: Profile) -> bool
     both((p.read - 146) % 170 == 0, p.read < p.posts)
 }
 
-fn profile_obeys(h: Header, p: Profile) -> bool
-    ensures { λ r. ⌜ r ≡ profileObeys h p ⌝ }
+fn profile_obeys(family: u64, h: Header, p: Profile) -> bool
+    ensures { λ r. ⌜ r ≡ profileObeys family h p ⌝ }
 {
     let rows = frame::row_lattice(h);
     let room = lattice::leaves_room(p.row, p.posts, rows.count);
@@ -42,7 +42,7 @@ fn profile_obeys(h: Header, p: Profile) -> bool
         read_obeys(p),
     );
     all4(
-        p.posts <= 2048,
+        field::in_range(field::posts_limits(family), p.posts),
         room,
         number::size_of(p.datum) <= 1000000,
         rest,
@@ -121,9 +121,9 @@ fn places_obey(s: Session) -> bool
 {
     let h = s.header;
     let p = s.profile;
-    let profile = implied(is_busy(s), profile_obeys(h, p));
+    let profile = implied(is_busy(s), profile_obeys(s.family, h, p));
     all3(
-        heading::header_obeys(h),
+        heading::family_obeys(s.family, h),
         closed_obeys(s),
         all3(profile, column_obeys(s), finish_obeys(s)),
     )

@@ -5,7 +5,7 @@ mod zero;
 use frame::Corner;
 use frame::Header;
 ghost use mathlib.Core.Path.{_≡_};
-ghost use Rattle.session.specs.Session.{fresh, begun, sound, complete, openBlocks};
+ghost use Rattle.session.specs.Session.{opened, fresh, begun, sound, complete, openBlocks};
 
 // The open profile: none where `posts` is 0. Stated extremes are in billionths, datum and running extremes in hundredths.
 pub struct Profile {
@@ -21,7 +21,7 @@ pub struct Profile {
 }
 
 // Blocks taken, profiles closed, posts and filled posts with their extremes in hundredths, the first profile's column,
-// whether record C was taken, and the sum of the filled posts' heights in hundredths.
+// whether record C was taken, the sum of the filled posts' heights in hundredths, and the sheet's family.
 pub struct Session {
     pub header: Header,
     pub taken: u64,
@@ -34,10 +34,12 @@ pub struct Session {
     pub finished: u64,
     pub profile: Profile,
     pub sum: i64,
+    pub family: u64,
 }
 
-pub fn new() -> Session
-    ensures { λ r. ⌜ r ≡ fresh ⌝ }
+// A fresh session for sheets of a family. Any number is answered; one that names no family is unsound.
+pub fn opened(family: u64) -> Session
+    ensures { λ r. ⌜ r ≡ opened family ⌝ }
 {
     let corner = Corner { x: 0, y: 0 };
     let header = Header {
@@ -81,13 +83,24 @@ pub fn new() -> Session
         finished: 0,
         profile,
         sum: 0,
+        family,
     }
+}
+
+// A fresh session for USGS sheets.
+pub fn new() -> Session
+    ensures { λ r. ⌜ r ≡ fresh ⌝ }
+{
+    opened(0)
 }
 
 // Document 01: "A session is sound exactly if ..". Any session is answered.
 pub fn is_sound(s: Session) -> bool
     ensures { λ r. ⌜ r ≡ sound s ⌝ }
 {
+    if 2 <= s.family {
+        return false;
+    }
     if zero::is_fresh(s) {
         return true;
     }
@@ -95,10 +108,10 @@ pub fn is_sound(s: Session) -> bool
 }
 
 // After block 0: its header, one block taken, all else zero.
-pub fn begun(header: Header) -> Session
-    ensures { λ r. ⌜ r ≡ begun header ⌝ }
+pub fn begun(family: u64, header: Header) -> Session
+    ensures { λ r. ⌜ r ≡ begun family header ⌝ }
 {
-    let mut s = new();
+    let mut s = opened(family);
     s.header = header;
     s.taken = 1;
     s

@@ -1,16 +1,18 @@
--- Document 01, "Record A", as a list of rules that a person can count: one line a field, in the paper's order, with the bytes
+-- Document 01, "Record A", and 02, request 2, as lists of rules that a person can count: one line a field, in the paper's order, with the bytes
 -- and limits of the paper's table written out again. Nothing here is made from the table that the code walks (RecordA, Heading);
 -- that the verdict on a block is its first broken rule is proved in proofs/RulesA.antt.
 use mathlib.Core.Bool.{cond}
 use mathlib.Core.List.{List, [], _∷_}
 use Prim.Native.Nat.{ℕ, _*_, _^_}
 use lib.Dec.{eqb, leb}
+use Rattle.laws.specs.Family.{isCanadian}
 use Rattle.laws.specs.Lists.{joined}
 use Rattle.laws.specs.Sign.{_and_}
 use Rattle.field.specs.declared.Limits.{Limits}
-use Rattle.field.specs.Field.{limits, wholeAt}
-use Rattle.field.specs.Rules.{Clause, clause, textRules, integerIn, integerBy, realForms, realRules, realIn, realBy}
-use Rattle.frame.specs.Frame.{cornersInOrder, columnsOf, rowsOf, oneTo2048}
+use Rattle.field.specs.Field.{limits, wholeAt, realAt}
+use Rattle.field.specs.Rules.{Clause, clause, textRules, mixedRules, fillerRules, integerForms, integerIn, integerBy, realForms, realRules, realIn, realBy}
+use Rattle.frame.specs.Frame.{cornersInOrder, columnsOf, rowsOf, oneTo2048, pairs, listed}
+use Rattle.corner.specs.Corner.{saysCorner}
 use Rattle.heading.specs.Heading.{headerOf}
 
 -- what goes by the system, bytes 157-162: geographic, UTM, state plane
@@ -76,3 +78,78 @@ rulesA =
     ∷ textRules 865 160
     ∷ wholeRules
     ∷ [])
+
+-- ---- 02, request 2: a Canadian sheet
+
+-- over the whole record: the corner in degrees is the SW corner (15), the pair of spacings is listed (7), the corners in order, 1,201 columns
+-- and rows (10)
+abbrev pub canadianWhole : List Clause
+canadianWhole =
+    clause 110 15 (λ b. saysCorner b (realAt 547 b) (realAt 571 b))
+    ∷ clause 817 7 (λ b. listed (headerOf b .xstep) (headerOf b .ystep) pairs)
+    ∷ clause 547 10 (λ b. cornersInOrder (headerOf b))
+    ∷ clause 817 10 (λ b. eqb (columnsOf (headerOf b)) 1201 and eqb (rowsOf (headerOf b)) 1201)
+    ∷ []
+
+-- all rules; degrees have no limits, minutes and seconds are below 60, x and y spacing are any reals until their pair is judged
+unfoldable pub rulesCanadian : List Clause
+rulesCanadian =
+    joined
+    (mixedRules 1 40
+    ∷ mixedRules 41 60
+    ∷ fillerRules 101 9
+    ∷ integerForms 110 4
+    ∷ integerIn 114 2 (limits 0 59 1 7)
+    ∷ realIn 116 7 (limits 0 59999999999 1 7)
+    ∷ integerForms 123 4
+    ∷ integerIn 127 2 (limits 0 59 1 7)
+    ∷ realIn 129 7 (limits 0 59999999999 1 7)
+    ∷ textRules 136 1
+    ∷ fillerRules 137 1
+    ∷ textRules 138 7
+    ∷ integerIn 145 6 (limits 1 1 1 9)
+    ∷ integerIn 151 6 (limits 1 1 1 9)
+    ∷ integerIn 157 6 (limits 0 0 1 9)
+    ∷ integerIn 163 6 (limits 0 0 1 9)
+    ∷ realForms 169 24
+    ∷ realForms 193 24
+    ∷ realForms 217 24
+    ∷ realForms 241 24
+    ∷ realForms 265 24
+    ∷ realForms 289 24
+    ∷ realForms 313 24
+    ∷ realForms 337 24
+    ∷ realForms 361 24
+    ∷ realForms 385 24
+    ∷ realForms 409 24
+    ∷ realForms 433 24
+    ∷ realForms 457 24
+    ∷ realForms 481 24
+    ∷ realForms 505 24
+    ∷ integerBy 529 6 9 (bySystem (limits 3 3 1 9) (limits 2 2 1 9) (limits 1 2 1 9))
+    ∷ integerIn 535 6 (limits 2 2 1 9)
+    ∷ integerIn 541 6 (limits 4 4 1 9)
+    ∷ realRules 547 24
+    ∷ realRules 571 24
+    ∷ realRules 595 24
+    ∷ realRules 619 24
+    ∷ realRules 643 24
+    ∷ realRules 667 24
+    ∷ realRules 691 24
+    ∷ realRules 715 24
+    ∷ realRules 739 24
+    ∷ realRules 763 24
+    ∷ realIn 787 24 (limits 0 0 1 9)
+    ∷ integerIn 811 6 (limits 0 0 1 9)
+    ∷ realRules 817 12
+    ∷ realRules 829 12
+    ∷ realBy 841 12 7 (byUnit (limits (10 ^ 8) (10 ^ 9) (10 ^ 8) 7) (limits (10 ^ 7) (10 ^ 9) (10 ^ 7) 7))
+    ∷ integerIn 853 6 (limits 1 1 1 9)
+    ∷ integerIn 859 6 (limits 1201 1201 1 7)
+    ∷ textRules 865 160
+    ∷ canadianWhole
+    ∷ [])
+
+-- the rules of a family's record A: "with the family's rules here counted beside 01's, or in place of those they replace"
+abbrev pub rulesFor : ℕ → List Clause
+rulesFor family = cond (isCanadian family) rulesCanadian rulesA

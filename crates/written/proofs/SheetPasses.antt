@@ -11,7 +11,7 @@ use Rattle.laws.proofs.Tests.{by-test}
 use Rattle.frame.specs.declared.Header.{Header}
 use Rattle.frame.specs.Frame.{cellsOf, zOf}
 use Rattle.heading.specs.Heading.{headerOf}
-use Rattle.sheet.specs.RecordA.{recordA, faultOf, checkedKind}
+use Rattle.sheet.specs.RecordA.{recordA, recordOf, faultOf, checkedKind}
 use Rattle.sheet.specs.declared.Checked.the-variants.{Sheet, Refused as NoSheet}
 use Rattle.sheet.specs.declared.Checked.{Checked}
 use Rattle.sheet.proofs.RulesA.{sheet-header}
@@ -33,15 +33,15 @@ none-of n e = absurd (omega (arith, e))
 
 -- a refused template has a kind
 pub refused-kind : (template : List ℕ) (kind byte : ℕ) → recordA template ≡ NoSheet kind byte → kind ≡ 0 → ⊥
-unfolding recordA
+unfolding recordOf
 refused-kind template kind byte e z =
-    by-test (eqb (faultOf template .kind) 0)
+    by-test (eqb (faultOf 0 template .kind) 0)
     (λ f.
     let q : Sheet (headerOf template) ≡ NoSheet kind byte = rw f at e in
     let n : _≡_ {A = ℕ} 0 1 = cc in omega (arith, n))
     (λ f.
-    let q : NoSheet (faultOf template .kind) (faultOf template .byte) ≡ NoSheet kind byte = rw f at e in
-    eqb-false (faultOf template .kind) 0 f (ap checkedKind q ∙ z))
+    let q : NoSheet (faultOf 0 template .kind) (faultOf 0 template .byte) ≡ NoSheet kind byte = rw f at e in
+    eqb-false (faultOf 0 template .kind) 0 f (ap checkedKind q ∙ z))
 
 -- "12 (0), 13 first cell ..": neither is so
 pub grid-passes : (h : Header) (grid : List ℤ) → gridObjection h grid .kind ≡ 0
@@ -72,6 +72,6 @@ fine-passes template grid z =
     go : length template ≡ 1024 → (c : Checked) → recordA template ≡ c → checkedObjection c grid .kind ≡ 0 → Passes template grid
     go l (NoSheet kind byte) e g = absurd (refused-kind template kind byte e g)
     go l (Sheet k) e g =
-        let same : k ≡ headerOf template = sheet-header template e in
+        let same : k ≡ headerOf template = sheet-header 0 refl template e in
         let f = grid-passes (headerOf template) grid (ap (λ (x : Header). gridObjection x grid .kind) (sym same) ∙ g) in
         record { long = l; sheet = e ∙ ap Sheet same; room = f .0; all = f .1 }

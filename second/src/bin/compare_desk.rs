@@ -6,12 +6,14 @@
 use second::asking::Asking;
 use second::block::Record;
 use second::comparing::{arguments, finish, number, Counts};
-use second::crafted::{self, sums, Crafted};
+use second::crafted::{self, families as of_families, sums, Crafted};
 use second::desk::{self, Call, Delivery, Left};
 use second::dice::Dice;
-use second::kept::clauses::{self, CLAUSES, NEGATIVE, TOO_FEW};
+use second::family::{CANADIAN, USGS};
+use second::kept::clauses::{self, clauses_of, FAMILY, NEGATIVE, TOO_FEW};
+use second::kept::place::FAMILY as FAMILY_PLACE;
 use second::kept::{self, HELD, NAMES, NUMBERS};
-use second::kind::GRID_TOO_SHORT;
+use second::kind::{CORNER_DISAGREES, GRID_TOO_SHORT};
 use second::presses;
 use second::record_a::{self, Header};
 use second::sheets::damage::damaged;
@@ -26,7 +28,15 @@ const FEWEST_BLOCKS: usize = 3_000;
 const FEWEST_SHEETS: usize = 1_500;
 
 /// A session with no column has fewer than n, so this clause is never broken alone.
-const NEVER_ALONE: &str = "1 column or more";
+const NEVER_ALONE: &[&str] = &["1 column or more"];
+/// No Canadian session has accuracy 1, so a record C always breaks the clause on that too.
+const NEVER_ALONE_IN_CANADA: &[&str] = &["a record C once at most", "a record C only after n"];
+
+/// Numbers of a Canadian session that have one good value each, or go with a number that has.
+const FIXED_IN_CANADA: [&str; 10] = [
+    "level", "system", "zone", "ground", "vertical", "accuracy", "xstep", "ystep", "profiles",
+    "finished",
+];
 
 struct Run {
     desk: Asking<Call>,
@@ -40,6 +50,8 @@ struct Run {
     altered: Counts,
     /// What deliveries to crafted sessions and of sheets showed about the sum.
     sums: Counts,
+    /// And about the family.
+    of_families: Counts,
     sessions: Counts,
     /// What was lent, and what came of it.
     lent: Counts,
@@ -63,6 +75,7 @@ impl Run {
             broken: Counts::default(),
             altered: Counts::default(),
             sums: Counts::default(),
+            of_families: Counts::default(),
             sessions: Counts::default(),
             lent: Counts::default(),
             blocks: Counts::default(),
@@ -81,8 +94,10 @@ impl Run {
     fn open_sessions(&mut self, dice: &mut Dice) {
         for count in 0..3 * NUMBERS {
             let numbers: Vec<i64> = (0..count).map(|_| dice.roll() as i64).collect();
+            let any = dice.roll() as u32;
+            let family = *dice.pick(&[0, 0, 1, 1, 2, 255, any, u32::MAX]);
             self.families.see("sessions opened");
-            self.desk.ask(desk::open(&numbers));
+            self.desk.ask(desk::open(family, &numbers));
         }
     }
 
@@ -104,12 +119,17 @@ impl Run {
             self.lent.see(name);
         }
         self.see_sum(&delivery, &left);
+        for name in of_families::shown(&delivery, &left) {
+            self.of_families.see(name);
+        }
         let broken = clauses::broken(&delivery.numbers);
         if let [clause] = broken[..] {
-            self.broken.see(clause);
+            let family = delivery.numbers.get(FAMILY_PLACE).copied().unwrap_or(USGS);
+            self.broken.see(clause_name(family, clause));
         }
-        if let Some(place) = made.altered {
-            self.altered.see(altered_name(place, broken.is_empty()));
+        if let Some((family, place)) = made.altered {
+            self.altered
+                .see(altered_name(family, place, broken.is_empty()));
         }
         self.desk.ask(delivery.call(&left));
         self.ask_about(dice, &delivery.numbers);
@@ -210,6 +230,7 @@ impl Run {
             .print("  this number altered alone", &altered_names());
         self.lent.print("  lent", &all_lent_names());
         self.sums.print("the sum", &sums::sights());
+        self.of_families.print("the family", &of_families::sights());
         self.sessions.print("sound, complete, report", &SESSIONS);
         self.of_sheets
             .print("whole sheets over a poor line", &answers_of_sheets());
@@ -242,6 +263,7 @@ impl Run {
         found.extend(self.broken.never_seen(&broken_alone()));
         found.extend(self.altered.never_seen(&altered_names()));
         found.extend(self.sums.never_seen(&sums::sights()));
+        found.extend(self.of_families.never_seen(&of_families::sights()));
         found.extend(self.sessions.never_seen(&SESSIONS));
         found.extend(self.lent.never_seen(&all_lent_names()));
         found.extend(self.of_sheets.never_seen(&answers_of_sheets()));
@@ -269,7 +291,9 @@ fn lent_names(delivery: &Delivery, result: u32) -> Vec<String> {
     }
     let size = |header: &Header| header.cells();
     let need = match (kept::sound(&delivery.numbers), delivery.number) {
-        (Some(_), 0) => record_a::check(&delivery.block).as_ref().map_or(0, size),
+        (Some(kept), 0) => record_a::check_of(kept.header.family, &delivery.block)
+            .as_ref()
+            .map_or(0, size),
         (Some(kept), _) if kept.taken > 0 => size(&kept.header),
         _ => return names,
     };
@@ -324,7 +348,7 @@ fn name_of(result: u32) -> String {
 }
 
 fn answers() -> Vec<String> {
-    let kinds = (1..=12).map(name_of);
+    let kinds = (1..=12).chain([CORNER_DISAGREES]).map(name_of);
     [kept::DONE, HELD]
         .map(name_of)
         .into_iter()
@@ -332,27 +356,46 @@ fn answers() -> Vec<String> {
         .collect()
 }
 
-/// The desk's own sessions are sound, and its grids long enough.
+/// The desk's own sessions are sound, its grids long enough, and these sheets USGS.
 fn answers_of_sheets() -> Vec<String> {
     let mut names = answers();
-    names.retain(|name| name != "refused 2" && name != "refused 12");
+    let others = [2, 12, CORNER_DISAGREES].map(name_of);
+    names.retain(|name| !others.contains(name));
     names
 }
 
-fn broken_alone() -> Vec<&'static str> {
-    let clauses = CLAUSES.iter().map(|&(name, _)| name);
-    let all = [TOO_FEW, NEGATIVE].into_iter().chain(clauses);
-    all.filter(|&name| name != NEVER_ALONE).collect()
+/// A clause that both families have counts for each.
+fn clause_name(family: i64, clause: &str) -> String {
+    match family {
+        CANADIAN => format!("Canadian, {clause}"),
+        _ => clause.to_string(),
+    }
 }
 
-fn altered_name(place: usize, sound: bool) -> String {
+fn broken_alone() -> Vec<String> {
+    let mut names = [TOO_FEW, NEGATIVE, FAMILY].map(String::from).to_vec();
+    for (family, never) in [(USGS, NEVER_ALONE), (CANADIAN, NEVER_ALONE_IN_CANADA)] {
+        let clauses = clauses_of(family).filter(|(name, _)| !never.contains(name));
+        names.extend(clauses.map(|(name, _)| clause_name(family, name)));
+    }
+    names
+}
+
+fn altered_name(family: i64, place: usize, sound: bool) -> String {
     let word = if sound { "sound" } else { "unsound" };
-    format!("{}, {word}", NAMES[place])
+    format!("{}, {word}", clause_name(family, NAMES[place]))
 }
 
 fn altered_names() -> Vec<String> {
-    let both = |place: usize| [true, false].map(|sound| altered_name(place, sound));
-    (0..NUMBERS).flat_map(both).collect()
+    let mut names = Vec::new();
+    for (place, name) in NAMES.iter().enumerate() {
+        names.extend([true, false].map(|sound| altered_name(USGS, place, sound)));
+        names.push(altered_name(CANADIAN, place, false));
+        if !FIXED_IN_CANADA.contains(name) {
+            names.push(altered_name(CANADIAN, place, true));
+        }
+    }
+    names
 }
 
 fn told_of_a_block() -> Vec<String> {

@@ -1,10 +1,14 @@
 //! Compares the check of a record A, the origin and the name of the C calls, asked through
-//! PROGRAM (`examples/answers.c`), with those of record_a.rs. Status 0: no difference.
-//! Status 1: a difference, or too little was compared.
-//! Usage: compare_record_a PROGRAM [SEED]
+//! PROGRAM (`examples/answers.c`), with those of record_a.rs; then the calls with a family, most
+//! of all on Canadian blocks 0. Status 0: no difference. Status 1: a difference, or too little
+//! was compared. Usage: compare_record_a PROGRAM [SEED]
 
-use second::asking::{ask_all, four, Question};
-use second::headers::FAMILIES;
+use second::asking::{ask_all, four, Asking, Question};
+use second::comparing::finish;
+use second::desk::{Call, OfFamily};
+use second::dice::Dice;
+use second::family::{CANADIAN, USGS};
+use second::headers::{canadian, FAMILIES};
 use second::record_a;
 use std::collections::BTreeMap;
 use std::process::exit;
@@ -12,6 +16,16 @@ use std::process::exit;
 const USAGE: &str = "compare_record_a PROGRAM [SEED]";
 const USUAL_SEED: u64 = 19_970_102;
 const FEWEST_BLOCKS: u64 = 200_000;
+const FEWEST_CANADIAN: u64 = 100_000;
+
+const USGS_NUMBER: u32 = USGS as u32;
+const CANADIAN_NUMBER: u32 = CANADIAN as u32;
+/// One of so many Canadian blocks is asked about as USGS too, by the calls with a family and by
+/// those without; another as a family that nobody knows.
+const EVERY: u64 = 8;
+const UNKNOWN: [u32; 8] = [2, 3, 255, 256, 257, 1 << 16, 1 << 31, u32::MAX];
+/// And one of so many USGS blocks, of all kinds, by the calls with a family.
+const EVERY_OF_USGS: u64 = 30;
 
 /// What one program says of a block.
 #[derive(Clone, Copy, Debug, PartialEq)]
@@ -113,6 +127,16 @@ fn faults_that_occur() -> Vec<(u32, u32)> {
     all
 }
 
+/// Faults that a run never met, or met though no rule gives them.
+fn unmet(of: &str, known: &[(u32, u32)], met: &BTreeMap<(u32, u32), u64>) -> Vec<String> {
+    let missing = known.iter().filter(|fault| !met.contains_key(fault));
+    let strange = met.keys().filter(|fault| !known.contains(fault));
+    let never = missing.map(|(kind, byte)| format!("{of}kind {kind} at {byte} never seen"));
+    never
+        .chain(strange.map(|(kind, byte)| format!("{of}kind {kind} at {byte} has no rule")))
+        .collect()
+}
+
 /// Says what the run left out, or met though no rule gives it.
 fn shortcomings(counts: &Counts) -> Vec<String> {
     let mut found = Vec::new();
@@ -123,17 +147,7 @@ fn shortcomings(counts: &Counts) -> Vec<String> {
     if passed * 10 < counts.blocks {
         found.push("fewer than a tenth of the blocks pass".to_string());
     }
-    let known = faults_that_occur();
-    for (kind, byte) in &known {
-        if !counts.faults.contains_key(&(*kind, *byte)) {
-            found.push(format!("kind {kind} at {byte} never seen"));
-        }
-    }
-    for fault in counts.faults.keys() {
-        if !known.contains(fault) {
-            found.push(format!("kind {} at {} has no rule", fault.0, fault.1));
-        }
-    }
+    found.extend(unmet("", &faults_that_occur(), &counts.faults));
     for origin in (0..=6).filter(|origin| !counts.origins.contains_key(origin)) {
         found.push(format!("origin {origin} never seen"));
     }
@@ -153,11 +167,154 @@ fn print_tables(counts: &Counts) {
     println!("name lengths {:?}", counts.name_lengths);
 }
 
+/// The calls with a family: what was asked, and what came of it.
+struct OfFamilies {
+    desk: Asking<Call>,
+    asked: BTreeMap<String, u64>,
+    faults: BTreeMap<(u32, u32), u64>,
+    origins: BTreeMap<u32, u64>,
+    blocks: u64,
+}
+
+impl OfFamilies {
+    fn open() -> OfFamilies {
+        let program = std::env::args().nth(1).expect("looked at before");
+        OfFamilies {
+            desk: Asking::of(&program).unwrap_or_else(|fault| finish(&[fault])),
+            asked: BTreeMap::new(),
+            faults: BTreeMap::new(),
+            origins: BTreeMap::new(),
+            blocks: 0,
+        }
+    }
+
+    fn ask(&mut self, family: u32, block: &[u8]) -> OfFamily {
+        let found = OfFamily::of(family, block);
+        self.desk.ask(found.call(family, block));
+        found
+    }
+
+    fn see(&mut self, what: &str) {
+        *self.asked.entry(what.to_string()).or_default() += 1;
+    }
+
+    fn canadian(&mut self, block: &[u8]) {
+        let found = self.ask(CANADIAN_NUMBER, block);
+        *self.faults.entry((found.kind, found.byte)).or_default() += 1;
+        *self.origins.entry(found.origin).or_default() += 1;
+        if found.kind == 0 && record_a::check(block).is_ok() {
+            self.see("obeys both families");
+            self.ask(USGS_NUMBER, block);
+        }
+        match self.blocks % EVERY {
+            0 => {
+                self.see("Canadian, asked about as USGS");
+                self.ask(USGS_NUMBER, block);
+            }
+            1 => {
+                let family = UNKNOWN[(self.blocks / EVERY) as usize % UNKNOWN.len()];
+                let found = self.ask(family, block);
+                self.see(&format!("unknown family, kind {}", found.kind));
+            }
+            _ => {}
+        }
+        self.blocks += 1;
+    }
+
+    fn usgs(&mut self, block: &[u8]) {
+        let found = self.ask(USGS_NUMBER, block);
+        assert_eq!(
+            record_a::check(block).err().unwrap_or((0, 0)),
+            (found.kind, found.byte)
+        );
+        self.see("USGS, asked about as such");
+        self.ask(CANADIAN_NUMBER, block);
+        self.see("USGS, asked about as Canadian");
+    }
+
+    /// Canadian blocks, and these USGS ones.
+    fn ask_all(&mut self, seed: u64, usgs: &[Vec<u8>]) {
+        let dice = &mut Dice::new(!seed);
+        for family in canadian::FAMILIES {
+            let before = self.blocks;
+            (family.make)(dice, &mut |block| self.canadian(block));
+            println!("{:<32} {:>6}", family.name, self.blocks - before);
+        }
+        for block in usgs {
+            self.usgs(block);
+        }
+        self.desk.hold_against_answers();
+    }
+
+    fn print_tables(&self) {
+        println!("Canadian blocks compared {}", self.blocks);
+        for ((kind, byte), times) in &self.faults {
+            println!("{kind:>5} {byte:>5} {times:>8}");
+        }
+        println!("origins {:?}", self.origins);
+        println!("besides {:?}", self.asked);
+    }
+
+    fn shortcomings(&self) -> Vec<String> {
+        let mut found = Vec::new();
+        if self.blocks < FEWEST_CANADIAN {
+            found.push(format!("fewer than {FEWEST_CANADIAN} Canadian blocks"));
+        }
+        if self.faults.get(&(0, 0)).unwrap_or(&0) * 10 < self.blocks {
+            found.push("fewer than a tenth of the Canadian blocks pass".to_string());
+        }
+        found.extend(unmet("Canadian, ", &canadian_faults(), &self.faults));
+        for origin in (0..=15).filter(|origin| !self.origins.contains_key(origin)) {
+            found.push(format!("Canadian origin {origin} never seen"));
+        }
+        for what in [
+            "obeys both families",
+            "unknown family, kind 1",
+            "unknown family, kind 2",
+        ] {
+            if !self.asked.contains_key(what) {
+                found.push(format!("{what}: never seen"));
+            }
+        }
+        found
+    }
+}
+
+/// Every (kind, byte) that the rules of a Canadian record A can give. n at the columns is none of
+/// them: both are 1201 by rules of their own.
+fn canadian_faults() -> Vec<(u32, u32)> {
+    let mut all = vec![(0, 0), (1, 0), (15, 110), (10, 547), (10, 817)];
+    let stretches = [1, 41, 101, 136, 137, 138, 865];
+    all.extend(stretches.map(|byte| (5, byte)));
+    all.extend([110, 123].map(|byte| (6, byte)));
+    all.extend([114, 127].iter().flat_map(|&byte| [(6, byte), (7, byte)]));
+    all.extend(
+        [116, 129]
+            .iter()
+            .flat_map(|&byte| [(6, byte), (7, byte), (8, byte)]),
+    );
+    let of_usgs = faults_that_occur().into_iter();
+    let others = of_usgs.filter(|fault| fault.0 >= 6 && ![(10, 859)].contains(fault));
+    all.extend(others);
+    all.sort_unstable();
+    all.dedup();
+    all
+}
+
+fn seed() -> u64 {
+    let given = std::env::args().nth(2);
+    given.map_or(USUAL_SEED, |text| text.parse().expect("looked at before"))
+}
+
 fn main() {
     let mut counts = Counts::default();
+    let mut some = Vec::new();
     let desk = ask_all(USAGE, USUAL_SEED, FAMILIES, |block| {
         let (number, findings) = (counts.blocks, second_findings(block));
         counts.add(findings);
+        if number % EVERY_OF_USGS == 0 {
+            some.push(block.to_vec());
+        }
         Judged {
             number,
             block: block.to_vec(),
@@ -165,5 +322,11 @@ fn main() {
         }
     });
     print_tables(&counts);
-    desk.end(shortcomings(&counts))
+    let mut of_families = OfFamilies::open();
+    of_families.ask_all(seed(), &some);
+    of_families.print_tables();
+    let mut found = shortcomings(&counts);
+    found.extend(of_families.shortcomings());
+    found.extend(of_families.desk.done().err());
+    desk.end(found)
 }

@@ -7,9 +7,10 @@
 use second::button::line::{self, Line};
 use second::button::press::{any_kill, Button, Ended, Kill};
 use second::button::state::{spoilt, State};
-use second::button::{self, Sheet, SHEETS};
+use second::button::{self, Sheet};
 use second::comparing::{self, Asked, Mismatch, Note, Wanted};
 use second::dice::Dice;
+use second::family::USGS;
 use std::fs;
 use std::path::Path;
 use std::time::{Duration, Instant};
@@ -19,7 +20,7 @@ const USUAL_SHEETS: usize = 105;
 const FEWEST_SHEETS: usize = 100;
 /// After so many kills the line gets better, or a run would have no end.
 const MOST_KILLS: usize = 4;
-const SHOWN: [&str; 17] = [
+const SHOWN: [&str; 22] = [
     "killed before any state",
     "killed, nothing new kept",
     "killed, some kept",
@@ -37,6 +38,22 @@ const SHOWN: [&str; 17] = [
     "two presses at once",
     "no state of ours",
     "wrong usage",
+    "no family said",
+    "family 0 said",
+    "family 1 said",
+    "another family than the state's",
+    "a family nobody knows",
+];
+/// None of them is 0 or 1, though some would be if cut to fewer bits.
+const NO_FAMILIES: [&str; 8] = [
+    "2",
+    "255",
+    "256",
+    "-1",
+    "4294967296",
+    "4294967297",
+    "one",
+    "1x",
 ];
 const KINDS: [u32; 8] = [1, 3, 4, 5, 6, 7, 9, 10];
 
@@ -70,7 +87,7 @@ impl<'a> Sending<'a> {
     fn send(&mut self, number: usize) -> Checked {
         self.try_little_room()?;
         for _ in 0..MOST_KILLS {
-            if self.taken() < self.sheet.text.len() {
+            if self.taken() < self.sheet.reach {
                 self.press_and_kill()?;
             }
         }
@@ -80,7 +97,10 @@ impl<'a> Sending<'a> {
             2 => self.try_spoilt_states(number / 4)?,
             _ => self.try_wrong_usage()?,
         }
-        while self.taken() < self.sheet.text.len() {
+        if number % 5 == 4 {
+            self.try_other_families()?;
+        }
+        while self.taken() < self.sheet.reach {
             let taken = self.taken();
             let line = line::poor(&mut self.dice, self.sheet, taken);
             self.press_to_the_end(line)?;
@@ -157,7 +177,8 @@ impl<'a> Sending<'a> {
         demand((least..=most).contains(&taken), || {
             format!("the state has {taken} blocks, not from {least} to {most}")
         })?;
-        demand(state == State::of(&self.sheet.text[..taken]), || {
+        let meant = State::of(self.sheet.family, &self.sheet.text[..taken]);
+        demand(state == meant, || {
             format!("the state is not what the first {taken} blocks mean")
         })?;
         demand(state.sum_is_that_of_the_cells(), || {
@@ -234,11 +255,30 @@ impl<'a> Sending<'a> {
     fn try_wrong_usage(&mut self) -> Checked {
         let state = self.button.state();
         let (state, empty) = (state.as_path(), Path::new(""));
-        for arguments in [&[][..], &[state, state], &[empty]] {
+        let one = Path::new("1");
+        for arguments in [&[][..], &[state, state], &[empty], &[state, one, one]] {
             let press = || self.button.press_wrongly(arguments);
             self.demand_untouched("wrong usage", 2, press)?;
         }
         self.note("wrong usage");
+        Ok(())
+    }
+
+    /// Another family than the state's own, and ones that nobody knows, state or no state.
+    fn try_other_families(&mut self) -> Checked {
+        let line = line::good(self.sheet, self.taken());
+        let line = &line.bytes[..line.bytes.len().min(3_000)];
+        for family in NO_FAMILIES {
+            let press = || self.button.press_with_family(family, line);
+            self.demand_untouched("a family nobody knows", 2, press)?;
+        }
+        self.note("a family nobody knows");
+        if self.kept.is_some() {
+            let other = (1 - self.sheet.family).to_string();
+            let press = || self.button.press_with_family(&other, line);
+            self.demand_untouched("another family than the state's", 2, press)?;
+            self.note("another family than the state's");
+        }
         Ok(())
     }
 }
@@ -254,13 +294,18 @@ fn told(what: &str, ended: &Ended) -> String {
 
 fn send(asked: &Asked, number: usize) -> Result<Note, Mismatch> {
     let (family, sheet) = button::sheet(asked.seed, number);
+    let (said, what) = match (sheet.family, number % 2) {
+        (USGS, 0) => (None, "no family said"),
+        (USGS, _) => (Some("0".to_string()), "family 0 said"),
+        (other, _) => (Some(other.to_string()), "family 1 said"),
+    };
     let mut sending = Sending {
-        button: Button::new(&asked.program, &number.to_string()),
+        button: Button::new(&asked.program, &number.to_string(), said),
         sheet: &sheet,
         dice: Dice::numbered(asked.seed ^ 1, number),
         kept: None,
         usual: Duration::from_millis(200),
-        shown: Vec::new(),
+        shown: vec![what.to_string()],
     };
     let sent = sending.send(number);
     sent.map_err(|fault| {
@@ -272,7 +317,10 @@ fn send(asked: &Asked, number: usize) -> Result<Note, Mismatch> {
     })?;
     Ok(Note {
         family,
-        outcome: "complete".to_string(),
+        outcome: match sheet.whole() {
+            true => "complete".to_string(),
+            false => "broken off".to_string(),
+        },
         shown: sending.shown,
     })
 }
@@ -281,8 +329,8 @@ fn wanted() -> Wanted {
     let kinds = KINDS.map(|kind| format!("refused {kind}"));
     Wanted {
         fewest: FEWEST_SHEETS,
-        families: SHEETS.iter().map(|(name, _)| *name).collect(),
-        outcomes: vec!["complete".to_string()],
+        families: button::families(),
+        outcomes: ["complete", "broken off"].map(String::from).to_vec(),
         shown: SHOWN
             .iter()
             .map(|name| name.to_string())

@@ -1,10 +1,12 @@
 //! What a poor line brings in one press, and what the button must say to it.
 
 use super::Sheet;
-use crate::block::BLOCK_LENGTH;
+use crate::block::{Record, BLOCK_LENGTH};
 use crate::dice::Dice;
+use crate::family::CANADIAN;
 use crate::kind::{SHEET_COMPLETE, TOO_EARLY, WRONG_LENGTH};
 use crate::meaning::{self, Block, Refusal};
+use crate::sheets::canadian::damaged_header;
 use crate::sheets::damage::damaged;
 
 pub struct Line<'a> {
@@ -23,7 +25,7 @@ const MISHAPS: i64 = 5;
 /// One press that finds `taken` blocks in the state. It begins anywhere up to the block that is
 /// due, for the sender may not know it, and breaks off anywhere.
 pub fn poor<'a>(dice: &mut Dice, sheet: &'a Sheet, taken: usize) -> Line<'a> {
-    let count = sheet.text.len();
+    let count = sheet.reach;
     let mut line = Line::open(sheet, taken);
     let any = dice.size(0, taken);
     let mut next = *dice.pick(&[taken, taken.saturating_sub(3), any]);
@@ -47,7 +49,7 @@ pub fn poor<'a>(dice: &mut Dice, sheet: &'a Sheet, taken: usize) -> Line<'a> {
 /// All that is missing, as it should be.
 pub fn good(sheet: &Sheet, taken: usize) -> Line<'_> {
     let mut line = Line::open(sheet, taken);
-    for number in taken..sheet.text.len() {
+    for number in taken..sheet.reach {
         line.send_block(number);
     }
     line
@@ -59,7 +61,8 @@ fn mishap(dice: &mut Dice, line: &mut Line, next: usize) -> usize {
     match dice.size(0, 4) {
         0 => {
             // dropped, and missed only some blocks later
-            for number in next + 1..(next + 1 + dice.size(0, 4)).min(count) {
+            let end = (next + 1 + dice.size(0, 4)).min(line.sheet.reach);
+            for number in next + 1..end {
                 line.send_block(number);
             }
             line.note("dropped");
@@ -92,7 +95,10 @@ fn mishap(dice: &mut Dice, line: &mut Line, next: usize) -> usize {
 /// The block that is due, damaged so that it breaks a rule: what breaks none is another sheet.
 fn refused_damage(dice: &mut Dice, line: &Line) -> Option<Vec<u8>> {
     let due = line.sheet.sent.get(line.taken)?;
-    let bytes = damaged(dice, due);
+    let bytes = match (line.sheet.family, due.record) {
+        (CANADIAN, Record::Header) => damaged_header(dice, &due.bytes),
+        _ => damaged(dice, due),
+    };
     let whole = bytes.len() == BLOCK_LENGTH;
     (whole && line.refusal_of(&bytes).is_some()).then_some(bytes)
 }
@@ -114,7 +120,7 @@ fn ending(dice: &mut Dice, line: &mut Line) {
             line.bytes.extend(&(number as u32).to_be_bytes()[..length]);
             line.note("cut in its number");
         }
-        2 if line.taken == count => {
+        2 if line.complete() => {
             line.send(count as u32, &block);
             line.note("one too many");
         }
@@ -138,12 +144,12 @@ impl<'a> Line<'a> {
     }
 
     pub fn complete(&self) -> bool {
-        self.taken == self.sheet.text.len()
+        self.sheet.whole() && self.taken == self.sheet.text.len()
     }
 
     /// All of standard output, if the press comes to its end.
     pub fn output(&self) -> String {
-        let last = match self.complete() {
+        let last = match self.taken == self.sheet.reach {
             true => self.sheet.lines.clone(),
             false => format!("unfinished {}\n", self.taken),
         };
@@ -189,6 +195,6 @@ impl<'a> Line<'a> {
     fn refusal_of(&self, bytes: &[u8]) -> Option<Refusal> {
         let mut text: Vec<Block> = self.sheet.text[..self.taken].to_vec();
         text.push(bytes.to_vec());
-        meaning::read(&text).err()
+        meaning::read_of(self.sheet.family, &text).err()
     }
 }

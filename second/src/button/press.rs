@@ -12,6 +12,8 @@ use std::time::{Duration, Instant};
 pub struct Button {
     program: String,
     folder: PathBuf,
+    /// What is said of the family, if anything: none is USGS.
+    family: Option<String>,
 }
 
 /// When a press is killed.
@@ -37,13 +39,14 @@ pub struct Ended {
 const LONGEST_PRESS: Duration = Duration::from_secs(60);
 
 impl Button {
-    pub fn new(program: &str, name: &str) -> Button {
+    pub fn new(program: &str, name: &str, family: Option<String>) -> Button {
         let own = format!("poor_line.{}.{name}", std::process::id());
         let folder = std::env::temp_dir().join(own);
         fs::create_dir_all(&folder).expect("the folder for temporary files takes more");
         Button {
             program: program.to_string(),
             folder,
+            family,
         }
     }
 
@@ -62,7 +65,7 @@ impl Button {
 
     fn command(&self) -> Command {
         let mut command = Command::new(&self.program);
-        command.arg(self.state());
+        command.arg(self.state()).args(&self.family);
         command
     }
 
@@ -70,19 +73,27 @@ impl Button {
         run(&mut self.command(), line, kill, &self.fresh())
     }
 
-    /// With other arguments than the one.
+    /// With other arguments than it should have.
     pub fn press_wrongly(&self, arguments: &[&Path]) -> Ended {
         let mut command = Command::new(&self.program);
         run(command.args(arguments), b"", &Kill::Never, &self.fresh())
     }
 
+    /// On its state, with something else said of the family.
+    pub fn press_with_family(&self, family: &str, line: &[u8]) -> Ended {
+        let mut command = Command::new(&self.program);
+        command.arg(self.state()).arg(family);
+        run(&mut command, line, &Kill::Never, &self.fresh())
+    }
+
     /// No file can grow past so many blocks of 512 bytes, as on a disk that is full.
     pub fn press_with_little_room(&self, line: &[u8], blocks: u64) -> Ended {
         let mut command = Command::new("sh");
-        let limited = format!("ulimit -f {blocks} && exec \"$0\" \"$1\"");
+        let limited = format!("ulimit -f {blocks} && exec \"$0\" \"$@\"");
         command
             .args(["-c", &limited, &self.program])
-            .arg(self.state());
+            .arg(self.state())
+            .args(&self.family);
         run(&mut command, line, &Kill::Never, &self.fresh())
     }
 

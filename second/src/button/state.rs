@@ -15,15 +15,16 @@ pub struct State {
 }
 
 impl State {
-    /// What these blocks mean, read as one text; none at all are a fresh session.
-    pub fn of(text: &[Block]) -> State {
+    /// What these blocks of a sheet of this family mean, read as one text; none at all are a
+    /// fresh session.
+    pub fn of(family: i64, text: &[Block]) -> State {
         if text.is_empty() {
             return State {
-                numbers: vec![0; NUMBERS],
+                numbers: Kept::opened(family).numbers().to_vec(),
                 cells: Vec::new(),
             };
         }
-        let sheet = meaning::read(text).expect("the first blocks of a good sheet");
+        let sheet = meaning::read_of(family, text).expect("the first blocks of a good sheet");
         State {
             numbers: Kept::after(&sheet).numbers().to_vec(),
             cells: sheet.cells(),
@@ -101,6 +102,7 @@ pub fn spoilt(state: &State) -> Vec<(&'static str, Vec<u8>)> {
         numbers[place] = number;
         with_numbers(numbers)
     };
+    let family = state.numbers[place::FAMILY];
     let too_far = state.numbers[place::FILLED] * FURTHEST + 1;
     let last_cell = whole.len() - 17;
     vec![
@@ -117,6 +119,10 @@ pub fn spoilt(state: &State) -> Vec<(&'static str, Vec<u8>)> {
             with_numbers(state.numbers[..place::SUM].to_vec()),
         ),
         (
+            "no family, as a younger button left it",
+            with_numbers(state.numbers[..place::FAMILY].to_vec()),
+        ),
+        (
             "a number more",
             with_numbers([&state.numbers[..], &[0]].concat()),
         ),
@@ -125,6 +131,14 @@ pub fn spoilt(state: &State) -> Vec<(&'static str, Vec<u8>)> {
             "unsound by the sum of heights",
             with_number(place::SUM, too_far),
         ),
+        ("a family nobody knows", with_number(place::FAMILY, 2)),
+        (
+            "a family past 32 bits",
+            with_number(place::FAMILY, family + (1 << 32)),
+        ),
+        ("a family below zero", with_number(place::FAMILY, -1)),
+        // Of small USGS sheets unsound, of any other not the family that is asked for.
+        ("the other family", with_number(place::FAMILY, 1 - family)),
         ("a cell fewer", with_cells(state.cells[1..].to_vec())),
         ("a cell more", with_cells([&state.cells[..], &[0]].concat())),
     ]

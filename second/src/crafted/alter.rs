@@ -3,6 +3,7 @@
 
 use crate::block::{HUNDREDTH, UNIT};
 use crate::dice::Dice;
+use crate::family::{CANADIAN, CANADIAN_SIDE, PAIRS, USGS};
 use crate::kept::clauses::{FURTHEST, FURTHEST_DATUM};
 use crate::kept::{blocks_of, Kept};
 use crate::lattice::Axis;
@@ -35,10 +36,11 @@ fn bounds(kept: &Kept, place: usize) -> Vec<i64> {
         0..=4 | 15 => vec![1, 3, 60, 9999],
         5..=12 => bounds_of_a_corner(kept, place - 5),
         13 | 14 | 31 | 32 => vec![SIZE, -SIZE, SIXTEEN_DIGITS, SIZE - 1000],
-        16 | 17 => vec![UNIT, 2 * UNIT, 9999 * UNIT, 10_000 * UNIT, UNIT / 2],
+        16 | 17 => ground_spacings(),
         18 => height_spacings(),
         19 => vec![
             1,
+            CANADIAN_SIDE,
             kept.closed,
             MOST,
             columns(kept).count(),
@@ -48,6 +50,7 @@ fn bounds(kept: &Kept, place: usize) -> Vec<i64> {
         37 => [-1, 1]
             .map(|sign| sign * kept.running.filled * FURTHEST)
             .to_vec(),
+        38 => families(),
         _ => bounds_of_the_profile(kept, place),
     }
 }
@@ -72,6 +75,22 @@ fn room_for_n(kept: &Kept) -> i64 {
     columns(kept).count() - kept.column.min(MOST)
 }
 
+/// Both ends of 01's rule, and all that a Canadian list names.
+fn ground_spacings() -> Vec<i64> {
+    let mut spacings = vec![UNIT, 2 * UNIT, 9999 * UNIT, 10_000 * UNIT, UNIT / 2];
+    spacings.extend(PAIRS.iter().map(|&(_, longitude)| longitude));
+    spacings
+}
+
+/// The two we know, ones that nobody does, and ones that would be known if cut to fewer bits.
+pub fn families() -> Vec<i64> {
+    let mut families = vec![USGS, CANADIAN, 255];
+    for bits in [8, 16, 32, 62] {
+        families.extend([1 << bits, (1 << bits) + 1]);
+    }
+    families
+}
+
 fn height_spacings() -> Vec<i64> {
     let hundredths = [1, 5, 10, 15, 20, 90, 95, 99, 100, 101, 110];
     hundredths.map(|count| count * HUNDREDTH).to_vec()
@@ -91,6 +110,13 @@ fn bounds_of_a_corner(kept: &Kept, place: usize) -> Vec<i64> {
     bounds.extend([start, end, end - most, start + most]);
     bounds.extend([start - spacing, end + spacing, end - most - spacing]);
     bounds.extend([corners[opposite] - 1000, corners[opposite] + 1000]);
+    let full = (CANADIAN_SIDE - 1) * spacing;
+    bounds.extend([
+        end - full,
+        start + full,
+        start - spacing + 1,
+        end + spacing - 1,
+    ]);
     bounds
 }
 
@@ -126,7 +152,13 @@ fn bounds_of_the_sheet(kept: &Kept, place: usize) -> Vec<i64> {
 fn bounds_of_the_profile(kept: &Kept, place: usize) -> Vec<i64> {
     let (open, rows) = (&kept.open, rows(kept).count());
     match place {
-        28 => vec![open.read.min(1 << 40), rows - open.row.min(MOST), MOST, 146],
+        28 => vec![
+            open.read.min(1 << 40),
+            rows - open.row.min(MOST),
+            MOST,
+            146,
+            CANADIAN_SIDE,
+        ],
         29 => vec![rows - open.posts, rows],
         30 => vec![FURTHEST_DATUM, -FURTHEST_DATUM],
         33 => vec![

@@ -2,18 +2,19 @@
 
 use crate::block::{Record, BLOCK_LENGTH, HUNDREDTH, INTEGER_WIDTH, REAL_WIDTH};
 use crate::dice::Dice;
+use crate::family::{CANADIAN, CANADIAN_SIDE};
 use crate::kept::{Kept, Running};
 use crate::profile::{elevation, FIRST_POST, POSTS_OF_FIRST_BLOCK, POSTS_OF_FURTHER_BLOCK};
 use crate::sheets::posts::{self, Run};
 use crate::sheets::shapes::small_size;
-use crate::sheets::{hand, head, put, statistics, statistics_block, Sent};
+use crate::sheets::{canadian, hand, head, put, statistics, statistics_block, Sent};
 
 /// For a sheet that is complete, a block of any record. Where the block closes a profile,
 /// the extremes that the session states are moved to what it closes with, most often.
 pub fn awaited(dice: &mut Dice, kept: &mut Kept) -> Sent {
     let record = kept.awaits().unwrap_or(Record::Statistics);
     let bytes = match record {
-        Record::Header => header_block(dice),
+        Record::Header => header_block(dice, kept.header.family),
         Record::Statistics => {
             let numbers = statistics(dice);
             statistics_block(dice, &numbers)
@@ -24,14 +25,26 @@ pub fn awaited(dice: &mut Dice, kept: &mut Kept) -> Sent {
     Sent { record, bytes }
 }
 
-fn header_block(dice: &mut Dice) -> Vec<u8> {
+/// A family that nobody knows has no record A of its own.
+fn header_block(dice: &mut Dice, family: i64) -> Vec<u8> {
+    if family == CANADIAN {
+        return canadian::head(dice).block(dice);
+    }
     let (columns, rows) = small_size(dice);
     head::head(dice, columns, rows).block(dice)
 }
 
-fn start_block(dice: &mut Dice, kept: &mut Kept) -> Vec<u8> {
+/// A profile that the family allows.
+fn run_of(dice: &mut Dice, kept: &Kept) -> Run {
     let rows = kept.header.rows().count();
-    let run = posts::run(dice, rows);
+    match kept.header.family {
+        CANADIAN => posts::run_of(dice, rows, CANADIAN_SIDE),
+        _ => posts::run(dice, rows),
+    }
+}
+
+fn start_block(dice: &mut Dice, kept: &mut Kept) -> Vec<u8> {
+    let run = run_of(dice, kept);
     let near = run.posts.len().min(POSTS_OF_FIRST_BLOCK);
     let found = elevations(kept, run.datum, &run.posts[..near]);
     let mut stated = (

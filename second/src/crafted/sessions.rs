@@ -10,12 +10,12 @@ use crate::sheets::shapes::small_size;
 
 /// Fresh; block 0 taken; between two profiles; inside one; all closed; record C taken.
 pub const STAGES: usize = 6;
-const FRESH: usize = 0;
-const BEGUN: usize = 1;
-const BETWEEN: usize = 2;
-const INSIDE: usize = 3;
-const CLOSED: usize = 4;
-const FINISHED: usize = 5;
+pub(super) const FRESH: usize = 0;
+pub(super) const BEGUN: usize = 1;
+pub(super) const BETWEEN: usize = 2;
+pub(super) const INSIDE: usize = 3;
+pub(super) const CLOSED: usize = 4;
+pub(super) const FINISHED: usize = 5;
 
 /// A profile of more posts than this has further blocks.
 const FIRST_BLOCK: i64 = 146;
@@ -106,13 +106,13 @@ fn long_size(dice: &mut Dice) -> (i64, i64) {
 }
 
 /// An end, the number beside it, or any between.
-fn between(dice: &mut Dice, least: i64, greatest: i64) -> i64 {
+pub(super) fn between(dice: &mut Dice, least: i64, greatest: i64) -> i64 {
     let any = dice.between(least, greatest);
     let (above, below) = ((least + 1).min(greatest), (greatest - 1).max(least));
     *dice.pick(&[least, above, any, any, below, greatest])
 }
 
-fn open(dice: &mut Dice, rows: i64) -> Open {
+pub(super) fn open(dice: &mut Dice, rows: i64) -> Open {
     let posts = between(dice, FIRST_BLOCK + 1, rows);
     let further = between(dice, 0, (posts - 1 - FIRST_BLOCK) / 170);
     let read = FIRST_BLOCK + 170 * further;
@@ -128,7 +128,7 @@ fn open(dice: &mut Dice, rows: i64) -> Open {
 }
 
 /// Posts, taken, filled and sum, anywhere between the least and the most there can be.
-fn count(dice: &mut Dice, kept: &mut Kept) {
+pub(super) fn count(dice: &mut Dice, kept: &mut Kept) {
     let (blocks, read) = match kept.has_open() {
         true => (blocks_of(kept.open.read), kept.open.read),
         false => (kept.finished, 0),
@@ -164,7 +164,7 @@ fn running(dice: &mut Dice, posts: i64) -> Running {
 
 /// Numbers without a meaning in this session: the first column before any profile, the
 /// extremes of nothing, the profile where none is open.
-fn leave_open_what_is_free(dice: &mut Dice, kept: &mut Kept) {
+pub(super) fn leave_open_what_is_free(dice: &mut Dice, kept: &mut Kept) {
     if kept.closed == 0 && !kept.has_open() {
         kept.column = unsigned(dice);
     }

@@ -1,11 +1,11 @@
 //! When the numbers of a session are sound (01, "What a delivery answers"; 02, request 1, for
-//! the sum): clause by clause, each with a name, so that a run can tell which of them it has
-//! seen broken.
+//! the sum, request 2 for the families): clause by clause, each with a name, so that a run can
+//! tell which of them it has seen broken.
 
 use super::{blocks_of, Kept, Open, Running, NUMBERS};
 use crate::block::{HUNDREDTH, UNIT};
+use crate::family::{is_ground_spacing, is_known, rules_of, Rules, CANADIAN, CANADIAN_SIDE, MOST};
 use crate::profile::{POSTS_OF_FIRST_BLOCK, POSTS_OF_FURTHER_BLOCK};
-use crate::record_a::{ground_units_of, zones_of, MOST};
 
 /// A filled cell lies within so many hundredths of zero.
 pub const FURTHEST: i64 = 4_276_700;
@@ -15,53 +15,46 @@ const MOST_BLOCKS: i64 = 13;
 /// A real has at most so many digits from its first to its last that is not zero.
 const DIGITS: usize = 15;
 
-pub const TOO_FEW: &str = "38 numbers or more";
+pub const TOO_FEW: &str = "39 numbers or more";
 pub const NEGATIVE: &str = "no unsigned number below zero";
+/// "A family we don't know is unsound", in every state.
+pub const FAMILY: &str = "a family we know";
 pub const SUM: &str = "sum within reach of the filled";
 
-type Clause = (&'static str, fn(&Kept) -> bool);
+pub type Clause = (&'static str, fn(&Kept) -> bool);
 
 /// Those of a session that is not fresh. One that needs another to have a meaning is
-/// kept while that other is broken.
-pub const CLAUSES: &[Clause] = &[
-    ("level 1 to 3", |k| (1..=3).contains(&k.header.level)),
-    ("system 0 to 2", |k| (0..=2).contains(&k.header.system)),
+/// kept while that other is broken. First the numbers of record A that every family has, and
+/// all that counts, which no family tightens (READINGS-02, 2.13).
+const OF_EVERY_FAMILY: &[Clause] = &[
+    ("level of the family", |k| {
+        rules(k).levels.contains(&k.header.level)
+    }),
+    ("system of the family", |k| {
+        rules(k).systems.contains(&k.header.system)
+    }),
     ("zone of the system", |k| {
-        zones_of(k.header.system).contains(&k.header.zone)
+        (rules(k).zones)(k.header.system).contains(&k.header.zone)
     }),
     ("ground unit of the system", |k| {
-        ground_units_of(k.header.system).contains(&k.header.ground_unit)
+        (rules(k).ground_units)(k.header.system).contains(&k.header.ground_unit)
     }),
-    ("vertical unit 1 or 2", |k| {
-        (1..=2).contains(&k.header.vertical_unit)
+    ("vertical unit of the family", |k| {
+        rules(k).vertical_units.contains(&k.header.vertical_unit)
     }),
     ("corners are reals", corners_are_reals),
     ("stated least is a real", |k| is_real(k.header.stated_least)),
     ("stated greatest is a real", |k| {
         is_real(k.header.stated_greatest)
     }),
-    ("accuracy 0 or 1", |k| (0..=1).contains(&k.header.accuracy)),
-    ("x spacing 1 to 9999, whole", |k| {
-        is_ground_spacing(k.header.x_spacing)
-    }),
-    ("y spacing 1 to 9999, whole", |k| {
-        is_ground_spacing(k.header.y_spacing)
+    ("accuracy of the family", |k| {
+        rules(k).accuracies.contains(&k.header.accuracy)
     }),
     ("z spacing of the unit", is_height_spacing),
-    ("n at least 1", |k| k.header.n >= 1),
     ("SW.x < SE.x", |k| k.header.corners[0] < k.header.corners[6]),
     ("NW.x < NE.x", |k| k.header.corners[2] < k.header.corners[4]),
     ("SW.y < NW.y", |k| k.header.corners[1] < k.header.corners[3]),
     ("SE.y < NE.y", |k| k.header.corners[7] < k.header.corners[5]),
-    ("1 column or more", |k| columns(k).is_none_or(|c| c >= 1)),
-    ("2048 columns or fewer", |k| {
-        columns(k).is_none_or(|c| c <= MOST)
-    }),
-    ("1 row or more", |k| rows(k).is_none_or(|r| r >= 1)),
-    ("2048 rows or fewer", |k| rows(k).is_none_or(|r| r <= MOST)),
-    ("n at most the columns", |k| {
-        columns(k).is_none_or(|c| k.header.n <= c)
-    }),
     ("closed at most n", |k| k.closed <= k.header.n),
     ("below n if one is open", |k| {
         !k.has_open() || k.closed != k.header.n
@@ -123,6 +116,52 @@ pub const CLAUSES: &[Clause] = &[
     (SUM, |k| wide(k.sum).abs() <= reach_of_sum(k.running.filled)),
 ];
 
+/// What document 01 asks of the lattice and of n.
+const OF_USGS: &[Clause] = &[
+    ("x spacing 1 to 9999, whole", |k| {
+        is_ground_spacing(k.header.x_spacing)
+    }),
+    ("y spacing 1 to 9999, whole", |k| {
+        is_ground_spacing(k.header.y_spacing)
+    }),
+    ("n at least 1", |k| k.header.n >= 1),
+    ("1 column or more", |k| columns(k).is_none_or(|c| c >= 1)),
+    ("2048 columns or fewer", |k| {
+        columns(k).is_none_or(|c| c <= MOST)
+    }),
+    ("1 row or more", |k| rows(k).is_none_or(|r| r >= 1)),
+    ("2048 rows or fewer", |k| rows(k).is_none_or(|r| r <= MOST)),
+    ("n at most the columns", |k| {
+        columns(k).is_none_or(|c| k.header.n <= c)
+    }),
+];
+
+/// What request 2 asks instead.
+const OF_CANADIAN: &[Clause] = &[
+    ("spacings of the list", spacings_are_allowed),
+    ("1201 profiles", |k| k.header.n == CANADIAN_SIDE),
+    ("1201 columns", |k| {
+        columns(k).is_none_or(|c| c == CANADIAN_SIDE)
+    }),
+    ("1201 rows", |k| rows(k).is_none_or(|r| r == CANADIAN_SIDE)),
+    ("open: 1201 posts", |k| {
+        open(k).is_none_or(|open| open.posts == CANADIAN_SIDE)
+    }),
+];
+
+/// All that a session of this family, not fresh, has to keep.
+pub fn clauses_of(family: i64) -> impl Iterator<Item = &'static Clause> {
+    let own = match family {
+        CANADIAN => OF_CANADIAN,
+        _ => OF_USGS,
+    };
+    OF_EVERY_FAMILY.iter().chain(own)
+}
+
+fn rules(kept: &Kept) -> &'static Rules {
+    rules_of(kept.header.family).expect("looked at before all clauses")
+}
+
 /// How far from zero the sum of so many filled cells may lie. Neither their extremes nor the
 /// open profile's have a say in it (READINGS-02, 1.2).
 pub fn reach_of_sum(filled: i64) -> i128 {
@@ -141,15 +180,19 @@ pub fn broken(numbers: &[i64]) -> Vec<&'static str> {
         return vec![TOO_FEW];
     }
     let numbers = &numbers[..NUMBERS];
-    if numbers.iter().all(|&number| number == 0) {
-        return Vec::new();
-    }
     let negative = |place: usize| !is_signed(place) && numbers[place] < 0;
     if (0..NUMBERS).any(negative) {
         return vec![NEGATIVE];
     }
     let kept = Kept::of(numbers);
-    let broken = CLAUSES.iter().filter(|(_, holds)| !holds(&kept));
+    let family = kept.header.family;
+    if !is_known(family) {
+        return vec![FAMILY];
+    }
+    if kept == Kept::opened(family) {
+        return Vec::new();
+    }
+    let broken = clauses_of(family).filter(|(_, holds)| !holds(&kept));
     broken.map(|&(name, _)| name).collect()
 }
 
@@ -172,8 +215,9 @@ fn corners_are_reals(kept: &Kept) -> bool {
     kept.header.corners.iter().all(|&corner| is_real(corner))
 }
 
-fn is_ground_spacing(spacing: i64) -> bool {
-    spacing % UNIT == 0 && (1..=9999).contains(&(spacing / UNIT))
+fn spacings_are_allowed(kept: &Kept) -> bool {
+    let header = &kept.header;
+    rules(kept).allow_spacings(header.x_spacing, header.y_spacing)
 }
 
 fn is_height_spacing(kept: &Kept) -> bool {
@@ -185,14 +229,22 @@ fn is_height_spacing(kept: &Kept) -> bool {
     (1..=UNIT).contains(&spacing) && spacing % finest == 0
 }
 
+/// Where a family lists its spacings in pairs, one of them has no meaning alone.
+fn may_be_spacing(kept: &Kept, spacing: i64) -> bool {
+    match rules(kept).pairs {
+        None => is_ground_spacing(spacing),
+        Some(_) => spacings_are_allowed(kept),
+    }
+}
+
 /// None where the spacing or a corner is at fault, and there is no lattice to speak of.
 fn columns(kept: &Kept) -> Option<i64> {
-    let lies = is_ground_spacing(kept.header.x_spacing) && corners_are_reals(kept);
+    let lies = may_be_spacing(kept, kept.header.x_spacing) && corners_are_reals(kept);
     lies.then(|| kept.header.columns().count())
 }
 
 fn rows(kept: &Kept) -> Option<i64> {
-    let lies = is_ground_spacing(kept.header.y_spacing) && corners_are_reals(kept);
+    let lies = may_be_spacing(kept, kept.header.y_spacing) && corners_are_reals(kept);
     lies.then(|| kept.header.rows().count())
 }
 

@@ -1,16 +1,19 @@
 //! Damage aimed at one rule: a profile's fields, posts and place, and the stated extremes.
 
+use super::canadian::damaged_header;
 use super::damage::{damaged, fields_of, nudge, post_field, Field};
 use super::{put, Sent};
 use crate::block::{Record, BLOCK_LENGTH, HUNDREDTH, INTEGER_WIDTH, UNIT};
 use crate::dice::Dice;
+use crate::family::CANADIAN;
 use crate::profile::{POSTS_OF_FIRST_BLOCK, POSTS_OF_FURTHER_BLOCK};
 use crate::record_a::Header;
 
-/// A block of a profile with some of its fields or posts replaced, moved or shifted.
+/// A block, most often of a profile, with some of its fields or posts replaced, moved or shifted.
 pub fn damaged_profile_block(dice: &mut Dice, header: &Header, sent: &Sent) -> Vec<u8> {
     let mut block = sent.bytes.clone();
     match sent.record {
+        Record::Header if header.family == CANADIAN => return damaged_header(dice, &block),
         Record::ProfileStart => damage_start(dice, header, &mut block),
         Record::ProfileRest if dice.one_in(2) => {
             let any = dice.size(0, POSTS_OF_FURTHER_BLOCK - 1);

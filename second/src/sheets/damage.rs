@@ -40,6 +40,15 @@ const fn spacing(first: usize, texts: &'static [&'static str]) -> Field {
     }
 }
 
+/// A number of another width than these.
+const fn part(first: usize, width: usize, texts: &'static [&'static str]) -> Field {
+    Field {
+        first,
+        width,
+        texts,
+    }
+}
+
 const NEAR_ONE: &[&str] = &["0", "1", "2", "-1", "+01", "999999", "-99999"];
 const CODES: &[&str] = &["-1", "-0", "0", "1", "2", "10", "999999"];
 const ZONES: &[&str] = &[
@@ -62,6 +71,10 @@ const GROUND_SPACINGS: &[&str] = &[
     "9999D0",
     "99990D-1",
     "30.0",
+    "0.75",
+    "3",
+    "6",
+    "12",
 ];
 const HEIGHT_SPACINGS: &[&str] = &[
     "0",
@@ -89,11 +102,11 @@ const HEIGHT_SPACINGS: &[&str] = &[
     "10",
 ];
 const PROFILE_COUNTS: &[&str] = &[
-    "-1", "0", "1", "2", "2047", "2048", "2049", "999999", "-2048",
+    "-1", "0", "1", "2", "1200", "1201", "1202", "2047", "2048", "2049", "999999", "-2048",
 ];
 const POST_COUNTS: &[&str] = &[
-    "-1", "0", "1", "2", "3", "145", "146", "147", "148", "316", "317", "318", "1201", "2047",
-    "2048", "2049", "999999",
+    "-1", "0", "1", "2", "3", "145", "146", "147", "148", "316", "317", "318", "1200", "1201",
+    "1202", "2047", "2048", "2049", "999999",
 ];
 const DATUMS: &[&str] = &[
     "10000",
@@ -163,6 +176,27 @@ pub const HEADER_FIELDS: [Field; 39] = [
     spacing(841, HEIGHT_SPACINGS),
     integer(853, NEAR_ONE),
     integer(859, PROFILE_COUNTS),
+];
+
+const DEGREES: &[&str] = &[
+    "-75", "75", "-0", "0", "+0", "-00", "-999", "9999", "+75", "-181", "5", "-1", "1", "0075",
+];
+const MINUTES: &[&str] = &[
+    "-1", "-0", "+0", "0", "1", "9", "30", "59", "60", "61", "99", "+5",
+];
+const SECONDS: &[&str] = &[
+    "60", "60.0000", "59.9999", "-1", "-0.0000", "-0.0001", "0.0001", "0.00001", "1D-9", "1.0D-09",
+    "0", "30.0000", "30.", "1.5E+01", "99.9999", "6E1", "599E-1", "60.0001", "59.9D0", "1D-10",
+];
+
+/// The corner in text of a Canadian record A: longitude, then latitude.
+pub const CORNER_FIELDS: [Field; 6] = [
+    part(110, 4, DEGREES),
+    part(114, 2, MINUTES),
+    part(116, 7, SECONDS),
+    part(123, 4, DEGREES),
+    part(127, 2, MINUTES),
+    part(129, 7, SECONDS),
 ];
 
 const PROFILE_FIELDS: [Field; 9] = [
@@ -268,8 +302,9 @@ impl Field {
     /// Every text to try in this field, each as wide as the field.
     pub fn telling_texts(&self) -> Vec<Vec<u8>> {
         let mut texts: Vec<Vec<u8>> = self.texts.iter().map(|text| self.right(text)).collect();
-        if self.width == INTEGER_WIDTH {
-            texts.extend(WRONG_INTEGERS.iter().map(|text| text.to_vec()));
+        if self.width <= INTEGER_WIDTH {
+            let ends = WRONG_INTEGERS.map(|text| &text[INTEGER_WIDTH - self.width..]);
+            texts.extend(ends.map(<[u8]>::to_vec));
             return texts;
         }
         for text in WRONG_REALS.iter().chain(&REALS_AT_THE_LIMITS) {

@@ -106,7 +106,7 @@ fn free(dice: &mut Dice, billionths: i64) -> Vec<u8> {
 }
 
 /// Left, right or anywhere in the field.
-fn justified(dice: &mut Dice, text: Vec<u8>, width: usize) -> Vec<u8> {
+pub(super) fn justified(dice: &mut Dice, text: Vec<u8>, width: usize) -> Vec<u8> {
     let room = width - text.len();
     let left = match dice.size(0, 3) {
         0 => 0,

@@ -4,6 +4,7 @@
 use super::{hand, put};
 use crate::block::{BLOCK_LENGTH, HUNDREDTH, REAL_WIDTH, SPACING_WIDTH, UNIT};
 use crate::dice::Dice;
+use crate::family::USGS;
 use crate::record_a::Header;
 
 /// The texts and numbers of a record A, and where its lattice was meant to lie: the numbers
@@ -33,6 +34,7 @@ pub fn head(dice: &mut Dice, columns: i64, rows: i64) -> Head {
     Head {
         text: text(dice),
         numbers: Header {
+            family: USGS,
             level: dice.between(1, 3),
             system,
             zone: zone(dice, system),
@@ -83,7 +85,7 @@ pub fn ground_spacing(dice: &mut Dice) -> i64 {
 }
 
 /// Tenths in feet, hundredths in metres, up to one.
-fn height_spacing(dice: &mut Dice, vertical_unit: i64) -> i64 {
+pub(super) fn height_spacing(dice: &mut Dice, vertical_unit: i64) -> i64 {
     let finest = if vertical_unit == 1 { 10 } else { 1 };
     let steps = 100 / finest;
     let any = dice.between(1, steps);
@@ -91,7 +93,7 @@ fn height_spacing(dice: &mut Dice, vertical_unit: i64) -> i64 {
 }
 
 /// Low and high coordinate of the two sides that run along one axis.
-type Sides = [(i64, i64); 2];
+pub(super) type Sides = [(i64, i64); 2];
 
 /// The first multiple of an axis of `count` multiples, and sides that hold just those.
 fn axis(dice: &mut Dice, count: i64, spacing: i64) -> (i64, Sides) {
@@ -119,7 +121,7 @@ pub fn finest_step(value: i64) -> i64 {
 }
 
 /// A corner value for which `multiple` is the least multiple not below.
-fn at_or_below(dice: &mut Dice, multiple: i64, spacing: i64) -> i64 {
+pub(super) fn at_or_below(dice: &mut Dice, multiple: i64, spacing: i64) -> i64 {
     let before = multiple - spacing;
     match dice.size(0, 4) {
         0 | 1 => multiple,
@@ -130,7 +132,7 @@ fn at_or_below(dice: &mut Dice, multiple: i64, spacing: i64) -> i64 {
 }
 
 /// A corner value for which `multiple` is the greatest multiple not above.
-fn at_or_above(dice: &mut Dice, multiple: i64, spacing: i64) -> i64 {
+pub(super) fn at_or_above(dice: &mut Dice, multiple: i64, spacing: i64) -> i64 {
     -at_or_below(dice, -multiple, spacing)
 }
 
@@ -154,7 +156,7 @@ fn sides(dice: &mut Dice, least: i64, greatest: i64) -> Sides {
 }
 
 /// A whole number of millionths from `low` on and below `high`; `low` if there is none.
-fn inside(dice: &mut Dice, low: i64, high: i64) -> i64 {
+pub(super) fn inside(dice: &mut Dice, low: i64, high: i64) -> i64 {
     let any = dice.between(low, high - 1);
     let rounded = any - any.rem_euclid(1000);
     if rounded < low {
@@ -164,12 +166,12 @@ fn inside(dice: &mut Dice, low: i64, high: i64) -> i64 {
     }
 }
 
-fn corners(xs: Sides, ys: Sides) -> [i64; 8] {
+pub(super) fn corners(xs: Sides, ys: Sides) -> [i64; 8] {
     let ([(sw_x, se_x), (nw_x, ne_x)], [(sw_y, nw_y), (se_y, ne_y)]) = (xs, ys);
     [sw_x, sw_y, nw_x, nw_y, ne_x, ne_y, se_x, se_y]
 }
 
-const LETTERS: &[u8] = b"ABCDEFGHIJKLMNOPQRSTUVWXYZ0123456789 ,.-'/()~@[`{}!&";
+pub(super) const LETTERS: &[u8] = b"ABCDEFGHIJKLMNOPQRSTUVWXYZ0123456789 ,.-'/()~@[`{}!&";
 pub const ORIGIN_TEXTS: [&str; 9] = [
     "MAC ", "GPM2", "MCMC", "RMMC", "WMC ", "FS  ", "    ", "NGS ", "MAC2",
 ];
@@ -191,7 +193,7 @@ fn text(dice: &mut Dice) -> Vec<u8> {
 }
 
 /// Bytes 865 to 1024, blank on most sheets.
-fn later(dice: &mut Dice) -> Vec<u8> {
+pub(super) fn later(dice: &mut Dice) -> Vec<u8> {
     let used = *dice.pick(&[0, 0, 32, 160]);
     let mut later = vec![b' '; 160];
     for byte in &mut later[..used] {

@@ -91,6 +91,70 @@ pub fn paper_blocks() -> Vec<Vec<u8>> {
     vec![paper_header(), first, second]
 }
 
+/// Billionths as a text with nine decimals, in a real field of 24 bytes.
+pub fn real(billionths: i64) -> String {
+    let sign = if billionths < 0 { "-" } else { "" };
+    let size = billionths.unsigned_abs();
+    let text = format!("{sign}{}.{:09}", size / 1_000_000_000, size % 1_000_000_000);
+    format!("{text:24}")
+}
+
+/// A Canadian record A whose south-west corner is `x`, `y`, on a full lattice of these spacings;
+/// `written` is the corner in bytes 110 to 135. All numbers are billionths.
+pub fn canadian_header(written: &str, [x, y]: [i64; 2], [xs, ys]: [i64; 2]) -> Vec<u8> {
+    assert_eq!(written.len(), 26);
+    let mut block = block_of(&[
+        (1, "031g05_0100_demw"),
+        (41, "Natural Resources Canada"),
+        (110, written),
+        (136, "8"),
+        (141, "NTDB"),
+        (145, "     1     1     0     0"),
+        (529, "     3     2     4"),
+        (739, &real(0)),
+        (763, &real(0)),
+        (787, &real(0)),
+        (811, "     0"),
+        (817, &real(xs)[..12]),
+        (829, &real(ys)[..12]),
+        (841, "         1.0"),
+        (853, "     1  1201"),
+    ]);
+    for place in 0..15 {
+        put(&mut block, 169 + place * 24, "0.0");
+    }
+    // The 1201st multiple from the least that is not below the corner.
+    let last = |corner: i64, spacing: i64| (1200 - (-corner).div_euclid(spacing)) * spacing;
+    let (east, north) = (last(x, xs), last(y, ys));
+    let corners = [x, y, x, north, east, north, east, y];
+    for (place, corner) in corners.into_iter().enumerate() {
+        put(&mut block, 547 + place * 24, &real(corner));
+    }
+    block
+}
+
+/// Ottawa's: 75°30' west, 45° north, 0.75 seconds either way; written as GDAL writes it.
+pub fn ottawa() -> Vec<u8> {
+    let unit = 1_000_000_000;
+    canadian_header(
+        " -7530 0.0000  45 0 0.0000",
+        [-271_800 * unit, 162_000 * unit],
+        [unit * 3 / 4; 2],
+    )
+}
+
+/// A profile of Ottawa's sheet, counted from 0, in its eight blocks; the datum is 0, extremes are
+/// whole metres.
+pub fn ottawa_profile(place: i64, posts: &[i64], extremes: (i64, i64)) -> Vec<Vec<u8>> {
+    let unit = 1_000_000_000;
+    let x = -271_800 * unit + place * (unit * 3 / 4);
+    let mut blocks = column_blocks(posts, 0, extremes.0 * 100, extremes.1 * 100);
+    put(&mut blocks[0], 7, &format!("{:6}", place + 1));
+    put(&mut blocks[0], 25, &real(x));
+    put(&mut blocks[0], 49, &real(162_000 * unit));
+    blocks
+}
+
 /// Hundredths as a text with two decimals, in a real field of 24 bytes.
 fn units(hundredths: i64) -> String {
     let sign = if hundredths < 0 { "-" } else { "" };

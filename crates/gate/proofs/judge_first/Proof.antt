@@ -4,14 +4,14 @@ use native.Mathlib.Omega.{arith}
 use borrow.Author.Tests.{leb-true}
 use borrow.Author.Needs.{needs}
 use Rattle.frame.specs.Frame.{cellsOf}
-use Rattle.sheet.specs.RecordA.{recordA}
+use Rattle.sheet.specs.RecordA.{recordOf}
 use Rattle.sheet.specs.declared.Checked.the-variants.{Sheet}
 use Rattle.gate.proofs.Gates.{first-bad, first-short, first-good}
 use Rattle.gate.proofs.judge_first.Statement.{statement}
 use Rattle.gate.proofs.judge_first.Tie as tie
 
-check-record-a-requires : tie.Need-check-record-a-requires
-check-record-a-requires c κs = search needs
+check-family-requires : tie.Need-check-family-requires
+check-family-requires c κs = search needs
 
 enum-known-checked : tie.Need-enum-known-checked
 enum-known-checked c = search needs
@@ -27,8 +27,8 @@ has-room-requires c κs = search needs
 
 -- record A is good
 sheet-is : (c : tie.After-has-room)
-    → recordA (c .before .before .before .before .before .before .args .block .now) ≡ Sheet (c .before .before .checked2 .given .0 .0)
-sheet-is c = sym (c .before .before .before .before .check-record-a .ensures) ∙ c .before .before .checked2 .given .1
+    → recordOf (c .before .before .before .before .before .before .args .s .family) (c .before .before .before .before .before .before .args .block .now) ≡ Sheet (c .before .before .checked2 .given .0 .0)
+sheet-is c = sym (c .before .before .before .before .check-family .ensures) ∙ c .before .before .checked2 .given .1
 
 begin-requires : tie.Need-begin-requires
 begin-requires c κs =
@@ -42,7 +42,7 @@ returns c =
     let k = c .before .before in
     let a = k .before .before .before .before .before .before .args in
     c .begin .ensures
-    ∙ first-good (a .s) (a .cells) (recordA (a .block .now)) (k .before .before .checked2 .given .0 .0) (sheet-is k)
+    ∙ first-good (a .s) (a .cells) (recordOf (a .s .family) (a .block .now)) (k .before .before .checked2 .given .0 .0) (sheet-is k)
     (sym (k .has-room .ensures) ∙ c .before .if1 .taken)
 
 refused-requires-2 : tie.Need-refused-requires-2
@@ -53,21 +53,21 @@ returns-2 c =
     let k = c .before .before .before .before in
     let a = k .before .before .args in
     c .refused .ensures
-    ∙ first-bad (a .s) (a .cells) (recordA (a .block .now)) _ _ (sym (k .check-record-a .ensures) ∙ c .before .before .checked .given .1)
+    ∙ first-bad (a .s) (a .cells) (recordOf (a .s .family) (a .block .now)) _ _ (sym (k .check-family .ensures) ∙ c .before .before .checked .given .1)
 
 returns-3 : tie.Need-returns-3
 returns-3 c =
     let k = c .before .before in
     let a = k .before .before .before .before .before .before .args in
     c .refused2 .ensures
-    ∙ first-short (a .s) (a .cells) (recordA (a .block .now)) (k .before .before .checked2 .given .0 .0) (sheet-is k)
+    ∙ first-short (a .s) (a .cells) (recordOf (a .s .family) (a .block .now)) (k .before .before .checked2 .given .0 .0) (sheet-is k)
     (sym (k .has-room .ensures) ∙ c .before .if1 .left)
 
 pub judge-first-spec : {M : Type 1} → statement M
 judge-first-spec =
     tie.close
     (tie.spec
-    check-record-a-requires
+    check-family-requires
     enum-known-checked
     refused-requires
     enum-known-checked-2

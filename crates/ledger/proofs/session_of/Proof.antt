@@ -33,7 +33,7 @@ returns-2 c =
     let n = c .before in
     let t = n .before .before in
     let e = said-none (t .before .args .numbers .now) (sym (t .is-session .ensures) ∙ n .before .if1 .left) in
-    let r = c .begun .ensures ∙ ap (λ (s : Session). begun (s .header)) (n .new .ensures) in
+    let r = c .begun .ensures ∙ ap (λ (s : Session). begun 0 (s .header)) (n .new .ensures) in
     (r ∙ sym e, subst Idle (sym r) (record { column = omega arith; row = omega arith; read = omega arith; filled = omega arith }))
 
 pub session-of-spec : {M : Type 1} → statement M

@@ -1,4 +1,4 @@
--- The line of a header: rows and columns are the lattices' counts.
+-- The line of a header: rows and columns are the lattices' counts, x and y spacings go as they stand.
 use borrow.Author.Needs.{needs}
 use Rattle.lines.specs.Lines.{headLine}
 use Rattle.lines.proofs.head_line.Statement.{statement}
@@ -20,9 +20,8 @@ returns : tie.Need-returns
 unfolding headLine
 returns c =
     let l = c .before .before in
-    let columns = l .before .before .before .before .before in
+    let columns = l .before .before .before in
     let rows = columns .before in
-    let h = rows .before .before .args .h in
     rw (← (rows .rows .ensures), ← (columns .columns .ensures)) (l .sheet-line .ensures)
 
 pub head-line-spec : {M : Type 1} → statement M

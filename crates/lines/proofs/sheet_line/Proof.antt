@@ -1,4 +1,4 @@
--- Five numbers, the first after its word, and the line feed.
+-- Two counts, the first after its word, three spacings, and the line feed.
 use borrow.Author.Needs.{needs}
 use native.Mathlib.Omega.{arith}
 use Rattle.lines.proofs.Putting.{then, within, wider}
@@ -14,11 +14,11 @@ put-number-requires c κs = search needs
 put-next-requires : tie.Need-put-next-requires
 put-next-requires c κs = search needs
 
-put-next-requires-2 : tie.Need-put-next-requires-2
-put-next-requires-2 c κs = search needs
+put-spacing-requires : tie.Need-put-spacing-requires
+put-spacing-requires c κs = search needs
 
-put-next-requires-3 : tie.Need-put-next-requires-3
-put-next-requires-3 c κs = search needs
+put-spacing-requires-2 : tie.Need-put-spacing-requires-2
+put-spacing-requires-2 c κs = search needs
 
 put-units-requires : tie.Need-put-units-requires
 put-units-requires c κs = search needs
@@ -40,8 +40,8 @@ returns c =
     wider (omega arith)
     (then (rows .put-number .ensures)
     (then (columns .put-next .ensures)
-    (then (x .put-next2 .ensures)
-    (then (y .put-next3 .ensures) (then (z .put-units .ensures) (within 1 (f .put-byte .ensures) (omega arith) (omega arith)))))))
+    (then (x .put-spacing .ensures)
+    (then (y .put-spacing2 .ensures) (then (z .put-units .ensures) (within 1 (f .put-byte .ensures) (omega arith) (omega arith)))))))
 
 pub sheet-line-spec : {M : Type 1} → statement M
 sheet-line-spec =
@@ -50,8 +50,8 @@ sheet-line-spec =
     slice-aggregate-put-number
     put-number-requires
     put-next-requires
-    put-next-requires-2
-    put-next-requires-3
+    put-spacing-requires
+    put-spacing-requires-2
     put-units-requires
     put-byte-requires
     same-length

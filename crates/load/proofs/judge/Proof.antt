@@ -1,7 +1,7 @@
 -- The first tests, then block 0 or a later block.
 use mathlib.Core.Path.{sym, _∙_}
 use Rattle.frame.specs.Frame.{cellsOf}
-use Rattle.sheet.specs.RecordA.{recordA}
+use Rattle.sheet.specs.RecordA.{recordOf}
 use Rattle.delivery.specs.Deliver.{later}
 use Rattle.gate.specs.Gate.{room}
 use Rattle.gate.specs.declared.verdict.Gate.the-variants.{Stop, Again, Begin, Later}
@@ -68,7 +68,7 @@ returns-3 c =
     let g = c .before .before .before in
     let a = g .before .before .args in
     same-judging (gate-said (a .s) (a .number) (a .block .now) (room (a .cells)) Begin (g .gate .ensures) (c .before .enum-told2 .given .1))
-    (record { judged-is = c .judge-first .ensures; lies = first-lies (room (a .cells)) (recordA (a .block .now)) (a .scratch .now) })
+    (record { judged-is = c .judge-first .ensures; lies = first-lies (room (a .cells)) (recordOf (a .s .family) (a .block .now)) (a .scratch .now) })
 
 same-length : tie.Need-same-length
 same-length c = search needs

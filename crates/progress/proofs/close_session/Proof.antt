@@ -35,6 +35,7 @@ returns-2 c =
       finished = s .finished;
       profile = n .new .ensures j .profile;
       sum = back (s .sum) (c .struct-told .given .1 .1 .1 .1 .1 .1 .1 .1 .1 .1 .0 .1) j;
+      family = s .family;
     })
     ∙ sym (goes-on (s .closed) (closedSession s) s (e .if1 .left))
 

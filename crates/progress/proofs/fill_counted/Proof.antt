@@ -50,6 +50,7 @@ returns c =
       finished = a .s .finished;
       profile = r .read-on .ensures j;
       sum = sum-back (a .s .sum) (a .sum) (o .pre .so-far) (o .pre .more-sum) j;
+      family = a .s .family;
     }
 
 pub fill-counted-spec : {M : Type 1} → statement M

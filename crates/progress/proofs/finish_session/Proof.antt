@@ -31,6 +31,7 @@ returns-2 c =
       finished = 1;
       profile = s .profile;
       sum = back (s .sum) (c .struct-told .given .1 .1 .1 .1 .1 .1 .1 .1 .1 .1 .0 .1) j;
+      family = s .family;
     })
     ∙ sym (goes-on (s .taken) (finishedSession s) s (e .if1 .left))
 

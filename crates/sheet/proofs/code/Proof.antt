@@ -1,9 +1,9 @@
--- The table's column, computed: it is that of `fields`.
+-- The table's column, computed: it is that of `rows`.
 use borrow.Author.Needs.{needs}
 use lib.ListN.{List·getD-map}
-use Rattle.sheet.specs.RecordA.{fields, row}
+use Rattle.sheet.specs.RecordA.{canadianFront, usgsFront, back, row}
 use Rattle.sheet.specs.RecordA.Rule.{words}
-use Rattle.sheet.specs.RecordASteps.{codeOf}
+use Rattle.sheet.specs.RecordASteps.{rows, codeOf}
 use Rattle.sheet.proofs.code.Statement.{statement}
 use Rattle.sheet.proofs.code.Tie as tie
 
@@ -11,8 +11,8 @@ array-read-result : tie.Need-array-read-result
 array-read-result c = search needs
 
 returns : tie.Need-returns
-unfolding fields
-returns c = List·getD-map (λ r. codeOf (r .rule)) fields (c .args .i) (row 0 0 words)
+unfolding canadianFront usgsFront back
+returns c = List·getD-map (λ r. codeOf (r .rule)) rows (c .args .i) (row 0 0 words)
 
 pub code-spec : {M : Type 1} → statement M
 code-spec = tie.close (tie.spec array-read-result returns)

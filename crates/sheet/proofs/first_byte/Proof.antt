@@ -1,8 +1,9 @@
--- The table's column, computed: it is that of `fields`.
+-- The table's column, computed: it is that of `rows`.
 use borrow.Author.Needs.{needs}
 use lib.ListN.{List·getD-map}
-use Rattle.sheet.specs.RecordA.{fields, row}
+use Rattle.sheet.specs.RecordA.{canadianFront, usgsFront, back, row}
 use Rattle.sheet.specs.RecordA.Rule.{words}
+use Rattle.sheet.specs.RecordASteps.{rows}
 use Rattle.sheet.proofs.first_byte.Statement.{statement}
 use Rattle.sheet.proofs.first_byte.Tie as tie
 
@@ -13,8 +14,8 @@ array-read-result : tie.Need-array-read-result
 array-read-result c = search needs
 
 returns : tie.Need-returns
-unfolding fields
-returns c = List·getD-map (λ r. r .first) fields (c .args .i) (row 0 0 words)
+unfolding canadianFront usgsFront back
+returns c = List·getD-map (λ r. r .first) rows (c .args .i) (row 0 0 words)
 
 pub first-byte-spec : {M : Type 1} → statement M
 first-byte-spec = tie.close (tie.spec mul-result array-read-result returns)

@@ -24,8 +24,8 @@ add-end c =
 name-requires : tie.Need-name-requires
 name-requires c κs = search needs
 
-named-limits-requires : tie.Need-named-limits-requires
-named-limits-requires c κs = search needs
+family-limits-requires : tie.Need-family-limits-requires
+family-limits-requires c κs = search needs
 
 code-requires : tie.Need-code-requires
 code-requires c κs = search needs
@@ -60,16 +60,16 @@ returns c =
     let f = w .before in
     let a = f .before .before in
     c .judge-field .ensures
-    ∙ judge-at-is (a .args .block .now) (a .args .i) (a .args .system) (a .args .vertical) (f .first-byte .result) (w .width .result)
+    ∙ judge-at-is (a .args .family) (a .args .block .now) (a .args .i) (a .args .system) (a .args .vertical) (f .first-byte .result) (w .width .result)
     (k .code .result)
     (n .name .result)
-    (l .named-limits .result)
+    (l .family-limits .result)
     (a .pre .1)
     (f .first-byte .ensures)
     (w .width .ensures)
     (k .code .ensures)
     (n .name .ensures)
-    (l .named-limits .ensures)
+    (l .family-limits .ensures)
 
 pub judge-at-spec : {M : Type 1} → statement M
 judge-at-spec =
@@ -80,7 +80,7 @@ judge-at-spec =
     width-requires
     add-end
     name-requires
-    named-limits-requires
+    family-limits-requires
     code-requires
     sub-judge-field
     part-judge-field-start

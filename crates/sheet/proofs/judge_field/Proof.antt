@@ -1,80 +1,21 @@
--- A field by its code.
+-- A text or a number.
 use borrow.Author.Needs.{needs}
-use mathlib.Core.Path.{sym, _∙_, ap}
-use borrow.Author.Tests.{eq-eqb, ne-eqb}
-use Rattle.field.specs.Field.{ranged}
+use mathlib.Core.Path.{sym, _∙_}
+use borrow.Author.Tests.{lt-ltb, le-ltb}
 use Rattle.sheet.proofs.judge_field.Statement.{statement}
 use Rattle.sheet.proofs.judge_field.Tie as tie
 
-judge-words-requires : tie.Need-judge-words-requires
-judge-words-requires c κs = search needs
+judge-text-requires : tie.Need-judge-text-requires
+judge-text-requires c κs = search needs
 
 returns : tie.Need-returns
-returns c = c .judge-words .ensures ∙ sym (simp (eq-eqb _ _ (c .before .if1 .taken)))
+returns c = c .judge-text .ensures ∙ sym (simp (lt-ltb _ _ (c .before .if1 .taken)))
 
-judge-form-requires : tie.Need-judge-form-requires
-judge-form-requires c κs = search needs
+judge-number-requires : tie.Need-judge-number-requires
+judge-number-requires c κs = search needs
 
 returns-2 : tie.Need-returns-2
-returns-2 c = c .judge-form .ensures ∙ sym (simp (ne-eqb _ _ (c .before .before .if1 .left), eq-eqb _ _ (c .before .if2 .taken)))
-
-read-real-requires : tie.Need-read-real-requires
-read-real-requires c κs = search needs
-
-returns-3 : tie.Need-returns-3
-returns-3 c = c .read-real .ensures ∙ sym (simp (ne-eqb _ _ (c .before .before .before .if1 .left), ne-eqb _ _ (c .before .before .if2 .left), eq-eqb _ _ (c .before .if3 .taken)))
-
-read-integer-requires : tie.Need-read-integer-requires
-read-integer-requires c κs = search needs
-
-read-ranged-requires : tie.Need-read-ranged-requires
-read-ranged-requires c κs = search needs
-
-returns-4 : tie.Need-returns-4
-returns-4 c =
-    let e = c .before .before in
-    c .read-ranged .ensures
-    ∙ ap (ranged (e .before .before .before .before .before .args .l)) (c .before .read-integer .ensures)
-    ∙ sym
-    (simp (
-      ne-eqb _ _ (e .before .before .before .if1 .left),
-      ne-eqb _ _ (e .before .before .if2 .left),
-      ne-eqb _ _ (e .before .if3 .left),
-      eq-eqb _ _ (e .if4 .taken),
-    ))
-
-read-real-requires-2 : tie.Need-read-real-requires-2
-read-real-requires-2 c κs = search needs
-
-read-ranged-requires-2 : tie.Need-read-ranged-requires-2
-read-ranged-requires-2 c κs = search needs
-
-returns-5 : tie.Need-returns-5
-returns-5 c =
-    let e = c .before .before in
-    c .read-ranged2 .ensures
-    ∙ ap (ranged (e .before .before .before .before .before .args .l)) (c .before .read-real2 .ensures)
-    ∙ sym
-    (simp (
-      ne-eqb _ _ (e .before .before .before .if1 .left),
-      ne-eqb _ _ (e .before .before .if2 .left),
-      ne-eqb _ _ (e .before .if3 .left),
-      ne-eqb _ _ (e .if4 .left),
-    ))
+returns-2 c = c .judge-number .ensures ∙ sym (simp (le-ltb _ _ (c .before .if1 .left)))
 
 pub judge-field-spec : {M : Type 1} → statement M
-judge-field-spec =
-    tie.close
-    (tie.spec
-    judge-words-requires
-    returns
-    judge-form-requires
-    returns-2
-    read-real-requires
-    returns-3
-    read-integer-requires
-    read-ranged-requires
-    returns-4
-    read-real-requires-2
-    read-ranged-requires-2
-    returns-5)
+judge-field-spec = tie.close (tie.spec judge-text-requires returns judge-number-requires returns-2)

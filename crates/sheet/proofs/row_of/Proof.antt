@@ -3,17 +3,16 @@ use Prim.Native.Nat.{_+_, _-_, _≤_}
 use mathlib.Core.Path.{_≡_}
 use native.Mathlib.Omega.{arith}
 use lib.ListN.{drop}
-use Rattle.sheet.specs.RecordA.{fields}
-use Rattle.sheet.specs.RecordASteps.{placeIn, placeOf}
+use Rattle.sheet.specs.RecordASteps.{rows, placeIn, placeOf}
 use Rattle.sheet.proofs.TableA.{place-start, place-here, place-on, place-none}
 use Rattle.sheet.proofs.row_of.Statement.{statement}
 use Rattle.sheet.proofs.row_of.Tie as tie
 
 abbrev Inv-loop : tie.InvT-loop
-Inv-loop first i₀ i = (i ≤ 41) × (i + placeIn first (drop i fields) ≡ placeOf first)
+Inv-loop first i₀ i = (i ≤ 53) × (i + placeIn first (drop i rows) ≡ placeOf first)
 
 abbrev μ-loop : tie.MeasureT-loop
-μ-loop first i₀ i = 41 - i
+μ-loop first i₀ i = 53 - i
 
 loop-holds : tie.Need-loop-holds Inv-loop μ-loop
 loop-holds c = place-start (c .args .first)

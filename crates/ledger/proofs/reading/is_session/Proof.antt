@@ -1,4 +1,4 @@
--- Enough numbers, and the four runs of counts.
+-- Enough numbers, and the five runs of counts.
 use mathlib.Core.Path.{_∙_, sym}
 use native.Mathlib.Omega.{arith}
 use Rattle.laws.specs.Sign.{_and_}
@@ -58,18 +58,35 @@ part-none-negative-end-4 c = search needs
 none-negative-requires-4 : tie.Need-none-negative-requires-4
 none-negative-requires-4 c κs = search needs
 
+sub-none-negative-5 : tie.Need-sub-none-negative-5
+sub-none-negative-5 c = search needs
+
+part-none-negative-start-5 : tie.Need-part-none-negative-start-5
+part-none-negative-start-5 c = search needs
+
+part-none-negative-end-5 : tie.Need-part-none-negative-end-5
+part-none-negative-end-5 c = search needs
+
+none-negative-requires-5 : tie.Need-none-negative-requires-5
+none-negative-requires-5 c κs = search needs
+
+both-requires : tie.Need-both-requires
+both-requires c κs = search needs
+
 all4-requires : tie.Need-all4-requires
 all4-requires c κs = search needs
 
 returns-2 : tie.Need-returns-2
 returns-2 c =
-    let d = c .before in
+    let o = c .before in
+    let e = o .before in
+    let d = e .before .before in
     let k = d .before .before in
     let b = k .before .before in
     let a = b .before .before in
     let s = a .before .before in
     c .all4 .ensures
-    ∙ (λ j. a .none-negative .ensures j and b .none-negative2 .ensures j and k .none-negative3 .ensures j and d .none-negative4 .ensures j)
+    ∙ (λ j. a .none-negative .ensures j and b .none-negative2 .ensures j and k .none-negative3 .ensures j and (o .both .ensures ∙ (λ i. d .none-negative4 .ensures i and e .none-negative5 .ensures i)) j)
     ∙ sym (enough-of (s .before .args .numbers .now) (omega arith))
 
 pub is-session-spec : {M : Type 1} → statement M
@@ -93,5 +110,10 @@ is-session-spec =
     part-none-negative-start-4
     part-none-negative-end-4
     none-negative-requires-4
+    sub-none-negative-5
+    part-none-negative-start-5
+    part-none-negative-end-5
+    none-negative-requires-5
+    both-requires
     all4-requires
     returns-2)

@@ -39,8 +39,12 @@ count-at-requires-6 c κs = search needs
 number-at-requires-3 : tie.Need-number-at-requires-3
 number-at-requires-3 c κs = search needs
 
+count-at-requires-7 : tie.Need-count-at-requires-7
+count-at-requires-7 c κs = search needs
+
 returns : tie.Need-returns
-returns e =
+returns x =
+    let e = x .before in
     let c = e .before in
     let sum = e .number-at3 in
     let low = c .before .before .before .number-at in
@@ -60,6 +64,7 @@ returns e =
             finished = c .count-at6 .ensures .0 j;
             profile = profile .ensures .0 j;
             sum = (toZ-ofZ {w = w64} {z = sum .result} (record { sfits = sum .ok }) ∙ sum .ensures) j;
+            family = x .count-at7 .ensures .0 j;
           }),
       record { column = column .ensures .1; row = profile .ensures .1 .0; read = profile .ensures .1 .1 .0; filled = profile .ensures .1 .1 .1 },
     )
@@ -79,4 +84,5 @@ session-kept-spec =
     count-at-requires-5
     count-at-requires-6
     number-at-requires-3
+    count-at-requires-7
     returns)

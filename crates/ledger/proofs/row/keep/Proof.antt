@@ -3,8 +3,7 @@ use mathlib.Core.Path.{_∙_, ap}
 use mathlib.Core.List.{List}
 use lib.IntN.{ℤ}
 use lib.Seq.{sets}
-use Rattle.ledger.specs.Numbers.{numbersAdded}
-use Rattle.ledger.specs.Steps.{countRow, profileRow}
+use Rattle.ledger.specs.Steps.{countRow, profileRow, addedRow}
 use Rattle.ledger.proofs.Keeping.{rows-put}
 use borrow.Author.Needs.{needs}
 use Rattle.ledger.proofs.row.keep.Statement.{statement}
@@ -34,7 +33,7 @@ returns c =
     let s = a .before .before in
     let session = s .args .s in
     d .put-added .ensures
-    ∙ ap (λ (l : List ℤ). sets l 37 (numbersAdded session))
+    ∙ ap (λ (l : List ℤ). sets l 37 (addedRow session))
     (k .put-profile .ensures
     ∙ ap (λ (l : List ℤ). sets l 28 (profileRow (session .profile)))
     (b .put-counts .ensures ∙ ap (λ (l : List ℤ). sets l 20 (countRow session)) (a .put-header .ensures)))

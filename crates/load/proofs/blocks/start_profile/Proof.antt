@@ -22,7 +22,7 @@ open-block-requires c κs =
     let o = c .before .before .before .before .before .before .before in
     let h = c .before .before in
     let q = sym (c .before .before .before .before .read-head .ensures) ∙ h .headed .given .1 in
-    let w = head-bounds (o .args .s .closed + 1) (o .args .block .now) (h .headed .given .0 .0) q in
+    let w = head-bounds (o .args .s .family) (o .args .s .closed + 1) (o .args .block .now) (h .headed .given .0 .0) q in
     record {
       ready = o .pre .0 .ready;
       idle = o .pre .1 .0;

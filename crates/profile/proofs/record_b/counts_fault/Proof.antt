@@ -12,14 +12,14 @@ limits-of-requires c κs = search needs
 judge-at-requires : tie.Need-judge-at-requires
 judge-at-requires c κs = search needs
 
-limits-of-requires-2 : tie.Need-limits-of-requires-2
-limits-of-requires-2 c κs = search needs
+posts-limits-requires : tie.Need-posts-limits-requires
+posts-limits-requires c κs = search needs
 
 judge-requires : tie.Need-judge-requires
 judge-requires c κs = search needs
 
-limits-of-requires-3 : tie.Need-limits-of-requires-3
-limits-of-requires-3 c κs = search needs
+limits-of-requires-2 : tie.Need-limits-of-requires-2
+limits-of-requires-2 c κs = search needs
 
 judge-at-requires-2 : tie.Need-judge-at-requires-2
 judge-at-requires-2 c κs = search needs
@@ -40,9 +40,9 @@ returns c =
     c .judge-at3 .ensures
     ∙ ap₂ (λ x f. faultOr (ranged x (integer (stretch 1 6 (a .block .now)))) 1 f) one
     (b .judge-at2 .ensures
-    ∙ ap₂ (λ x f. faultOr (ranged x (integer (stretch 7 6 (a .block .now)))) 7 f) (k .limits-of3 .ensures)
+    ∙ ap₂ (λ x f. faultOr (ranged x (integer (stretch 7 6 (a .block .now)))) 7 f) (k .limits-of2 .ensures)
     (m .judge .ensures
-    ∙ ap₂ (λ x f. faultOr (ranged x (a .posts)) 13 f) (q .limits-of2 .ensures)
+    ∙ ap₂ (λ x f. faultOr (ranged x (a .posts)) 13 f) (q .posts-limits .ensures)
     (l .judge-at .ensures ∙ ap (λ x. faultOr (ranged x (integer (stretch 19 6 (a .block .now)))) 19 (a .rest)) one)))
 
 pub counts-fault-spec : {M : Type 1} → statement M
@@ -51,9 +51,9 @@ counts-fault-spec =
     (tie.spec
     limits-of-requires
     judge-at-requires
-    limits-of-requires-2
+    posts-limits-requires
     judge-requires
-    limits-of-requires-3
+    limits-of-requires-2
     judge-at-requires-2
     judge-at-requires-3
     returns)

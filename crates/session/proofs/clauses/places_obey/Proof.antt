@@ -16,7 +16,7 @@ returns c =
     let b = profile .before in
     c .all32 .ensures
     ∙ (λ j.
-    header .header-obeys .ensures j
+    header .family-obeys .ensures j
     and closed .closed-obeys .ensures j
     and (rest .all3 .ensures
     ∙ (λ k.

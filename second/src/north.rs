@@ -1,0 +1,304 @@
+//! Canadian sheets sent to the desk over a poor line. A sheet has 1,442,401 cells, so the C side
+//! keeps one grid for all of them and hands back, with each delivery, the cells around its block;
+//! the whole grid is looked at once a sheet is through. What was taken must then be, number by
+//! number and cell by cell, what the joined text of the blocks means.
+
+use crate::block::Record;
+use crate::comparing::Counts;
+use crate::crafted::{blocks, families};
+use crate::desk::{self, Call, Placed, Window};
+use crate::dice::Dice;
+use crate::family::{CANADIAN, CANADIAN_SIDE};
+use crate::kept::{self, Kept, Told, DONE, HELD, NUMBERS};
+use crate::meaning::{self, sum_of_cells, Block};
+use crate::sheets::aimed::damaged_profile_block;
+use crate::sheets::canadian::{self, CELLS};
+use crate::sheets::{put, Plan, Sent};
+
+/// Cells past the sheet, which no delivery may touch, and what they hold.
+const SPARE: usize = 5;
+const HELD_AT_FIRST: i32 = 7;
+/// Cells shown on either side of those that a block fills.
+const AROUND: usize = 3;
+
+pub const CRAFTED: usize = 3_000;
+/// Sheets that break off, and sheets that are sent to their end.
+pub const BROKEN_OFF: usize = 220;
+pub const WHOLE: usize = 2;
+
+/// The desk's end of the line, asked through `ask`.
+pub struct North<'a> {
+    ask: &'a mut dyn FnMut(Call),
+    /// What the grid that the C side keeps must be.
+    grid: Vec<i32>,
+    numbers: Vec<i64>,
+    /// The blocks that the session has taken.
+    text: Vec<Block>,
+    /// What came of the blocks, by the record that was awaited.
+    pub answers: Counts,
+    /// How sheets ended.
+    pub ends: Counts,
+}
+
+impl<'a> North<'a> {
+    pub fn open(ask: &'a mut dyn FnMut(Call)) -> North<'a> {
+        ask(desk::keep_grid(CELLS + SPARE, HELD_AT_FIRST));
+        North {
+            ask,
+            grid: vec![HELD_AT_FIRST; CELLS + SPARE],
+            numbers: fresh(),
+            text: Vec::new(),
+            answers: Counts::default(),
+            ends: Counts::default(),
+        }
+    }
+
+    /// Sessions that no line brought, with the block that they await or a damaged one.
+    pub fn send_to_crafted(&mut self, dice: &mut Dice) {
+        for turn in 0..CRAFTED {
+            let mut kept = families::canadian(dice);
+            if kept.taken == 0 && turn % 4 != 0 {
+                continue;
+            }
+            let sent = blocks::awaited(dice, &mut kept);
+            let block = match dice.one_in(3) {
+                true => damaged_profile_block(dice, &kept.header, &sent),
+                false => sent.bytes,
+            };
+            self.numbers = kept.numbers().to_vec();
+            let lent = self.any_lent(dice);
+            self.send(dice, kept.taken as u32, &block, lent);
+            if turn % 500 == 0 {
+                self.look_at_all();
+            }
+        }
+        self.look_at_all();
+    }
+
+    /// So many blocks of a sheet, with mishaps; some never get a good block 0.
+    pub fn send_broken_off(&mut self, dice: &mut Dice, turn: usize) {
+        let profiles = *dice.pick(&[1, 1, 2, 3]);
+        let plan = canadian::plan(dice, profiles);
+        let blocks = plan.blocks(dice);
+        self.begin();
+        let end = match turn % 3 {
+            0 => 0,
+            _ => dice.size(1, blocks.len() - 1),
+        };
+        for number in 0..end {
+            self.mishaps(dice, &plan, &blocks, number, 3);
+            self.send_good(dice, &blocks, number);
+        }
+        for _ in 0..if end == 0 { 10 } else { 4 } {
+            self.mishap(dice, &plan, &blocks, end);
+        }
+        self.end(turn % 3 == 1);
+    }
+
+    pub fn send_whole(&mut self, dice: &mut Dice) {
+        let plan = canadian::plan(dice, CANADIAN_SIDE);
+        let blocks = plan.blocks(dice);
+        self.begin();
+        for number in 0..blocks.len() {
+            self.mishaps(dice, &plan, &blocks, number, 40);
+            self.send_good(dice, &blocks, number);
+        }
+        // A block too many.
+        self.send(dice, blocks.len() as u32, &blocks[1].bytes, CELLS);
+        self.end(true);
+    }
+
+    fn begin(&mut self) {
+        self.numbers = fresh();
+        self.text.clear();
+    }
+
+    /// What the blocks taken mean, read as one text, against the session and the grid; and, if
+    /// asked for, the whole grid of the C side.
+    fn end(&mut self, all: bool) {
+        let complete = match self.text.is_empty() {
+            true => {
+                assert_eq!(self.numbers, fresh());
+                false
+            }
+            false => self.demand_meaning(),
+        };
+        self.ends.see(match (self.text.len(), complete) {
+            (0, _) => "block 0 refused",
+            (1, _) => "unfinished, block 0 alone",
+            (_, true) => "complete",
+            _ => "unfinished in its profiles",
+        });
+        (self.ask)(desk::session(&self.numbers, 256));
+        if all {
+            self.look_at_all();
+        }
+    }
+
+    /// Whether the text is a whole sheet.
+    fn demand_meaning(&self) -> bool {
+        let sheet = meaning::read_of(CANADIAN, &self.text).expect("all of it was taken");
+        assert_eq!(Kept::after(&sheet).numbers()[..], self.numbers);
+        let (own, spare) = self.grid.split_at(CELLS);
+        assert!(
+            sheet.cells() == own,
+            "the cells are not what the text means"
+        );
+        assert_eq!(spare, [HELD_AT_FIRST; SPARE]);
+        assert_eq!(sheet.figures().sum, sum_of_cells(own));
+        sheet.complete()
+    }
+
+    fn look_at_all(&mut self) {
+        (self.ask)(desk::look_at_grid(0..self.grid.len(), &self.grid));
+    }
+
+    /// All cells and more, just enough, or one too few.
+    fn any_lent(&self, dice: &mut Dice) -> usize {
+        let enough = *dice.pick(&[CELLS, CELLS + SPARE]);
+        match dice.one_in(16) {
+            true => *dice.pick(&[0, CELLS - 1]),
+            false => enough,
+        }
+    }
+
+    fn send_good(&mut self, dice: &mut Dice, blocks: &[Sent], number: usize) {
+        self.send(dice, number as u32, &blocks[number].bytes, CELLS);
+    }
+
+    fn mishaps(&mut self, dice: &mut Dice, plan: &Plan, blocks: &[Sent], next: usize, rare: i64) {
+        while dice.one_in(rare) {
+            self.mishap(dice, plan, blocks, next);
+        }
+    }
+
+    /// A block repeated, early, damaged, cut, of another place, or with too few cells lent.
+    fn mishap(&mut self, dice: &mut Dice, plan: &Plan, blocks: &[Sent], next: usize) {
+        let due = &blocks[next.min(blocks.len() - 1)];
+        let other = dice.pick(blocks).bytes.clone();
+        let (number, block, lent) = match dice.size(0, 9) {
+            0 => (dice.size(0, next), other, CELLS),
+            1 if next > 0 => (next - 1, due.bytes.clone(), CELLS),
+            2 => (next + dice.size(1, 3), other, CELLS),
+            3 => (next, due.bytes[..dice.size(0, 1023)].to_vec(), CELLS),
+            4 => (next, due.bytes.clone(), *dice.pick(&[0, 146, CELLS - 1])),
+            5 => (next, with_a_mark_behind(dice, due), CELLS),
+            _ => {
+                let damaged = damaged_profile_block(dice, &plan.head.numbers, due);
+                (next, damaged, CELLS)
+            }
+        };
+        let whole = plan.runs.len() as i64 == CANADIAN_SIDE;
+        if !whole || lent < CELLS || !self.would_change_the_sheet(number, &block, due) {
+            self.send(dice, number as u32, &block, lent);
+        }
+    }
+
+    /// Damage that breaks no rule makes another sheet, which the other blocks may not end.
+    fn would_change_the_sheet(&self, number: usize, block: &[u8], due: &Sent) -> bool {
+        let (mut numbers, mut grid) = (self.numbers.clone(), self.grid.clone());
+        let told = kept::deliver(&mut numbers, number as u32, block, &mut grid);
+        told.result == DONE && block != due.bytes
+    }
+
+    fn send(&mut self, dice: &mut Dice, number: u32, block: &[u8], lent: usize) {
+        let placed = Placed {
+            numbers: self.numbers.clone(),
+            number,
+            block: block.to_vec(),
+            lent,
+            window: window(&self.numbers),
+            room: dice.size(0, 3),
+        };
+        let awaited = Kept::of(&self.numbers).awaits();
+        let (told, after) = placed.leaves(&mut self.grid);
+        self.answers.see(answer_name(awaited, told));
+        (self.ask)(placed.call(told, &after, &self.grid));
+        if told.result == DONE {
+            self.text.push(block.to_vec());
+        }
+        self.numbers = after;
+    }
+}
+
+fn fresh() -> Vec<i64> {
+    Kept::opened(CANADIAN).numbers().to_vec()
+}
+
+/// The cells around those that the next block fills; the end of the sheet where there is none.
+fn window(numbers: &[i64]) -> Window {
+    let all = CELLS + SPARE;
+    let end = CELLS - AROUND..all;
+    let Some(kept) = kept::sound(&numbers[..NUMBERS]) else {
+        return end;
+    };
+    if !matches!(
+        kept.awaits(),
+        Some(Record::ProfileStart | Record::ProfileRest)
+    ) {
+        return end;
+    }
+    let read = if kept.has_open() { kept.open.read } else { 0 };
+    let south = (kept.closed * CANADIAN_SIDE + read) as usize;
+    south.saturating_sub(AROUND)..(south + 170 + AROUND).min(all)
+}
+
+/// Behind the posts of a first block lie four bytes.
+fn with_a_mark_behind(dice: &mut Dice, due: &Sent) -> Vec<u8> {
+    let mut block = due.bytes.clone();
+    put(&mut block, dice.size(1021, 1024), &[*dice.pick(b"0X\t")]);
+    block
+}
+
+fn answer_name(awaited: Option<Record>, told: Told) -> String {
+    let what = match awaited {
+        Some(Record::Header) => "block 0",
+        Some(Record::ProfileStart) => "a profile's first block",
+        Some(Record::ProfileRest) => "a further block",
+        _ => "no block",
+    };
+    match told.result {
+        DONE => format!("{what} awaited, taken"),
+        HELD => format!("{what} awaited, held"),
+        kind => format!("{what} awaited, refused {kind}"),
+    }
+}
+
+/// What a run must have met to count.
+pub fn answers() -> Vec<String> {
+    let told = |result: u32| Told {
+        result,
+        block: 0,
+        byte: 0,
+    };
+    let mut names = Vec::new();
+    for (record, results) in [
+        (
+            Some(Record::Header),
+            &[DONE, 1, 3, 5, 6, 7, 8, 9, 10, 12, 15][..],
+        ),
+        (
+            Some(Record::ProfileStart),
+            &[DONE, HELD, 1, 3, 5, 6, 7, 8, 9, 10, 12],
+        ),
+        (
+            Some(Record::ProfileRest),
+            &[DONE, HELD, 1, 3, 5, 6, 7, 11, 12],
+        ),
+        (None, &[4]),
+    ] {
+        names.extend(
+            results
+                .iter()
+                .map(|&result| answer_name(record, told(result))),
+        );
+    }
+    names
+}
+
+pub const ENDS: [&str; 4] = [
+    "block 0 refused",
+    "unfinished, block 0 alone",
+    "unfinished in its profiles",
+    "complete",
+];
