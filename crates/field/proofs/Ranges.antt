@@ -2,15 +2,16 @@
 use mathlib.Core.Bool.{true, false, Bool}
 use mathlib.Core.Path.{_≡_, refl, sym}
 use native.Mathlib.Omega.{arith}
-use borrow.Author.Tests.{ltb-true, eqb-false}
+use borrow.Author.Tests.{ltb-true, leb-true, eqb-false}
 use lib.IntN.{ℤ, pos, negsuc}
 use lib.Signed.{ltZ}
-use lib.Dec.{eqb}
-use Prim.Native.Nat.{ℕ}
+use lib.Dec.{eqb, leb}
+use Prim.Native.Nat.{ℕ, _≤_}
+use Rattle.laws.specs.Family.{isCanadian}
 use Rattle.laws.specs.Sign.{notNegative}
-use Rattle.laws.proofs.Tests.{clash, by-test}
+use Rattle.laws.proofs.Tests.{clash, by-test, either, split, and-first}
 use Rattle.number.specs.declared.Reading.{Reading}
-use Rattle.field.specs.Field.{inLimits, inRange, ranged}
+use Rattle.field.specs.Field.{limits, postsLimits, inLimits, inRange, ranged}
 use Rattle.field.specs.declared.Limits.{Limits}
 
 pub below-limits : (l : Limits) (z : ℤ) → ltZ z (pos 0) ≡ true → inLimits l z ≡ false
@@ -44,3 +45,21 @@ range-read l r n z =
     by-test (eqb (r .kind) 0)
     (λ e. by-test (inLimits l (r .value)) (in-range l (r .value)) (λ i. absurd (n (rw (e, i) at z))))
     (λ e. absurd (eqb-false (r .kind) 0 e (rw e at z)))
+
+-- a number in limits stands between their ends
+pub range-ends : (l : Limits) (v : ℕ) → inRange l v ≡ true → (l .least ≤ v) × (v ≤ l .greatest)
+range-ends l v t =
+    let a = split (leb (l .least) v) _ t in
+    (leb-true (l .least) v (a .0), leb-true v (l .greatest) (and-first (leb v (l .greatest)) _ (a .1)))
+
+-- the posts of either family are 1 to 2,048, and refused as 7
+pub posts-few : (family v : ℕ) → inRange (postsLimits family) v ≡ true → (1 ≤ v) × (v ≤ 2048)
+posts-few family v =
+    either (λ l. inRange l v ≡ true → (1 ≤ v) × (v ≤ 2048)) (isCanadian family)
+    (λ t.
+    let e = range-ends (limits 1201 1201 1 7) v t in
+    (omega (arith, e .0), omega (arith, e .1)))
+    (range-ends (limits 1 2048 1 7) v)
+
+pub posts-kind : (family : ℕ) → HasKind 7 (postsLimits family)
+posts-kind family = either (HasKind 7) (isCanadian family) refl refl

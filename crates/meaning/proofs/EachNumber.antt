@@ -21,6 +21,7 @@ use Rattle.number.specs.Integer.{integer}
 use Rattle.number.specs.Real.{real}
 use Rattle.number.specs.Grammar.{IntegerMeans, RealMeans}
 use Rattle.number.proofs.Grammar.{integer-means, real-means}
+use Rattle.field.proofs.Ranges.{posts-kind}
 use Rattle.field.specs.Field.{realAt, stretch, restFault, limits, postsLimits, inRange, inLimits, ranged, wholeAt}
 use Rattle.field.specs.declared.Limits.{Limits}
 use Rattle.corner.specs.Corner.{arcSeconds}
@@ -33,7 +34,7 @@ use Rattle.sheet.proofs.HeaderA.{front-field, field-fine}
 use Rattle.sheet.proofs.RulesA.{sheet-fine, sheet-corner}
 use Rattle.profile.specs.RecordB.{recordB, headFault, headFields, headOf, hundredths, isDatum, datumField}
 use Rattle.profile.specs.declared.record_b.Headed.the-variants.{Profile}
-use Rattle.profile.proofs.RecordLaws.{head-bounds, posts-kind, all-read}
+use Rattle.profile.proofs.RecordLaws.{head-bounds, all-read}
 use Rattle.ground.specs.Blocks.{blockAt, blocksIn}
 use Rattle.ground.specs.Posts.{judgePost, postsFault, void, voidPost, filledIn}
 use Rattle.ground.proofs.PostsRead.{passed, fault-on, fault-none}

@@ -9,16 +9,14 @@ use native.Mathlib.Omega.{arith}
 use lib.ListN.{length}
 use lib.IntN.{ℤ, pos, negsuc, natAbs}
 use native.Mathlib.Nat.{div-le-of-le-mul}
-use Rattle.laws.specs.Family.{isCanadian}
-use Rattle.laws.proofs.Tests.{by-test, either, split, and-second}
+use Rattle.laws.proofs.Tests.{by-test, and-second}
 use Rattle.laws.proofs.Integers.{size-minus}
 use Rattle.number.specs.declared.Reading.{Reading}
 use Rattle.number.specs.Integer.{refused, integer}
 use Rattle.number.specs.Real.{real}
 use Rattle.number.proofs.Limits.{Limited, real-limits}
-use Rattle.field.specs.Field.{Judged, firstOf, inRange, limits, postsLimits, stretch, realAt}
-use Rattle.field.specs.declared.Limits.{Limits}
-use Rattle.field.proofs.Ranges.{HasKind, range-read}
+use Rattle.field.specs.Field.{Judged, firstOf, inRange, postsLimits, stretch, realAt}
+use Rattle.field.proofs.Ranges.{posts-few, posts-kind, range-read}
 use Rattle.profile.specs.RecordB.{headFields, headFault, headOf, recordB, hundredths, isDatum}
 use Rattle.profile.specs.declared.record_b.Head.{Head}
 use Rattle.profile.specs.declared.record_b.Headed.the-variants.{Profile, Refused}
@@ -63,24 +61,6 @@ own-rule : (t : Bool) (k : ℕ) (r : Reading) → (k ≡ 0 → ⊥) → cond (eq
 own-rule t k r n z =
     by-test (eqb (r .kind) 0) (λ e. (eqb-true (r .kind) 0 e, by-test t (λ b. b) (λ b. absurd (n (rw (e, b) at z)))))
     (λ e. absurd (eqb-false (r .kind) 0 e (rw e at z)))
-
--- posts in the limits of either family are 1 to 2,048
-range-few : (l : Limits) (v : ℕ) → 1 ≤ l .least → l .greatest ≤ 2048 → inRange l v ≡ true → (1 ≤ v) × (v ≤ 2048)
-range-few l v least greatest t =
-    let a = split (leb (l .least) v) _ t in
-    let b = split (leb v (l .greatest)) _ (a .1) in
-    let from = leb-true (l .least) v (a .0) in
-    let to = leb-true v (l .greatest) (b .0) in
-    (omega arith, omega arith)
-
-posts-few : (family v : ℕ) → inRange (postsLimits family) v ≡ true → (1 ≤ v) × (v ≤ 2048)
-posts-few family v =
-    either (λ l. inRange l v ≡ true → (1 ≤ v) × (v ≤ 2048)) (isCanadian family)
-    (range-few (limits 1201 1201 1 7) v (omega arith) (omega arith))
-    (range-few (limits 1 2048 1 7) v (omega arith) (omega arith))
-
-pub posts-kind : (family : ℕ) → HasKind 7 (postsLimits family)
-posts-kind family = either (HasKind 7) (isCanadian family) refl refl
 
 hundredths-size : (z : ℤ) → natAbs (hundredths z) ≡ natAbs z / 10 ^ 7
 hundredths-size (pos n) = refl

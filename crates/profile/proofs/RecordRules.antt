@@ -17,6 +17,7 @@ use Rattle.laws.proofs.Tables.{all}
 use Rattle.number.specs.declared.Reading.{Reading}
 use Rattle.number.specs.Integer.{integer}
 use Rattle.number.specs.Real.{real}
+use Rattle.field.proofs.Ranges.{posts-kind}
 use Rattle.field.specs.Field.{fault, limits, stretch, wholeAt, realAt, restFault}
 use Rattle.field.specs.Rules.{Clause, KeepsAll, FirstBroken, clause, integerForms, realRules, blankRules}
 use Rattle.field.proofs.Rules.{brokenOr, named, first-append, broken-named, fault-first, fault-exactly}
@@ -29,7 +30,7 @@ use Rattle.profile.specs.RulesC.{errorRules, accuracyRules, rulesC}
 use Rattle.profile.specs.declared.record_b.Head.{Head}
 use Rattle.profile.specs.declared.record_b.Headed.the-variants.{Profile, Refused}
 use Rattle.profile.proofs.Parts.{negative-is}
-use Rattle.profile.proofs.RecordLaws.{head-answered, posts-kind}
+use Rattle.profile.proofs.RecordLaws.{head-answered}
 
 -- ---- the head of a record B
 module _ (family number : ℕ) (block : List ℕ) where

@@ -6,13 +6,10 @@ use lib.IntN.{natAbs, ℤ}
 use borrow.Author.Tests.{leb-true, ltb-true, eqb-true, le-leb, lt-ltb, eq-eqb}
 use lib.Dec.{leb, eqb, ltb}
 use lib.Signed.{leZ}
-use native.Mathlib.Nat.{le-trans}
-use native.Mathlib.Omega.{arith}
-use Rattle.laws.specs.Family.{isCanadian}
 use Rattle.laws.specs.Sign.{implies}
-use Rattle.laws.proofs.Tests.{either, split, and-both, asked, unasked, either-second, either-cases, either-first}
-use Rattle.field.specs.Field.{inRange, limits, postsLimits}
-use Rattle.field.specs.declared.Limits.{Limits}
+use Rattle.laws.proofs.Tests.{split, and-both, asked, unasked, either-second, either-cases, either-first}
+use Rattle.field.proofs.Ranges.{posts-few}
+use Rattle.field.specs.Field.{inRange, postsLimits}
 use Rattle.frame.specs.Frame.{rowsOf, columnsOf}
 use Rattle.frame.specs.declared.Header.{Header}
 use Rattle.heading.specs.Heading.{isRealNumber, familyObeys}
@@ -21,18 +18,6 @@ use Rattle.session.specs.Session.{profileObeys, extremesObey, busy, open
 use Rattle.session.specs.declared.Session.{Session}
 
 -- ---- the open profile
-
--- posts in the limits of either family are 2,048 at most
-range-most : (l : Limits) (v : ℕ) → l .greatest ≤ 2048 → inRange l v ≡ true → v ≤ 2048
-range-most l v h t =
-    let a = split (leb (l .least) v) _ t in
-    let b = split (leb v (l .greatest)) _ (a .1) in
-    le-trans (leb-true v (l .greatest) (b .0)) h
-
-posts-most : (family v : ℕ) → inRange (postsLimits family) v ≡ true → v ≤ 2048
-posts-most family v =
-    either (λ l. inRange l v ≡ true → v ≤ 2048) (isCanadian family) (range-most (limits 1201 1201 1 7) v (omega arith))
-    (range-most (limits 1 2048 1 7) v (omega arith))
 
 -- the posts are those that a sheet of the family has, 1,201 in a Canadian one, and so 2,048 at most
 pub record Profiling (family : ℕ) (h : Header) (p : Profile) : Type 0 where
@@ -57,7 +42,7 @@ profile-facts family h p t =
     let step = split (eqb ((p .read - 146) % 170) 0) _ (first .1) in
     record {
       range = posts .0;
-      posts = posts-most family (p .posts) (posts .0);
+      posts = posts-few family (p .posts) (posts .0) .1;
       room = leb-true (p .row + p .posts) (rowsOf h) (room .0);
       datum = leb-true (natAbs (p .datum)) 1000000 (datum .0);
       least = least .0;
