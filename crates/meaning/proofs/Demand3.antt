@@ -4,7 +4,7 @@
 use mathlib.Core.List.{List, [], _++_, _∷_}
 use mathlib.Core.Path.{_≡_, sym, _∙_, ap}
 use Prim.Native.Nat.{ℕ, _≤_, _<_}
-use mathlib.Core.Bool.{false, true}
+use mathlib.Core.Bool.{cond, false, true}
 use native.Mathlib.Omega.{arith}
 use borrow.Author.Tests.{ne-eqb}
 use lib.Dec.{eqb}
@@ -12,13 +12,14 @@ use mathlib.Core.Logic.{_↔_}
 use lib.IntN.{ℤ}
 use lib.ListN.{length, take, drop, getD}
 use Rattle.laws.specs.Family.{known}
+use Rattle.laws.proofs.Tests.{by-test}
 use Rattle.ground.specs.Blocks.{blocksIn}
 use Rattle.session.specs.declared.Session.{Session}
-use Rattle.session.specs.Session.{opened, fresh}
+use Rattle.session.specs.Session.{opened, fresh, sound}
 use Rattle.ground.specs.Posts.{void, filledIn}
 use Rattle.ground.specs.Extremes.{filledOnly, sumOf}
-use Rattle.delivery.specs.declared.Answer.the-variants.{Taken}
-use Rattle.delivery.specs.Deliver.{Lent, lend, roomOf, deliverOf, lentAfter}
+use Rattle.delivery.specs.declared.Answer.the-variants.{Taken, Refused}
+use Rattle.delivery.specs.Deliver.{Lent, Room, lend, roomOf, Verdict, wrong, verdictOf, answerOf, lentBy, deliverOf, lentAfter}
 use Rattle.meaning.specs.Text.{profilesIn, cellsIn, postsIn, heightIn, allPosts, filledPosts, cellOfPost}
 use Rattle.meaning.specs.Exact.{Exact}
 use Rattle.meaning.specs.Means.{begunSession, sessionOf, gridOf}
@@ -33,6 +34,12 @@ use Rattle.meaning.proofs.EachPost as Cells
 use Rattle.meaning.proofs.Weighing as Weighing
 use Rattle.meaning.proofs.EachNumber as Numbers
 use Rattle.meaning.proofs.ShutOut as Shut
+
+-- the verdict on any delivery to a session of a family that we do not know
+unknown-wrong : (s : Session) → known (s .family) ≡ false → (number : ℕ) (block : List ℕ) (room : Room)
+    → verdictOf s number block room ≡ wrong (cond (eqb (length block) 1024) 2 1) number 0
+unfolding verdictOf sound
+unknown-wrong s k number block room = by-test (eqb (length block) 1024) (λ l. rw (l, k)) (λ l. rw l)
 
 -- what a desk holds, taken apart
 same-desks : {s t : Session} {g f : List ℤ} → desk s (lend g) ≡ desk t (lend f) → (s ≡ t) × (g ≡ f)
@@ -238,3 +245,13 @@ pub one-answer-each : (s : Session) (lent : Lent) (c e : Call) → Promised s le
     → (c .returned ≡ e .returned) × (c .left .grid ≡ e .left .grid)
 one-answer-each s lent c e p q same =
     (p .answers ∙ ap (λ (d : Delivery). deliverOf s (d .number) (d .bytes) lent) same ∙ sym (q .answers), p .fills ∙ ap (λ (d : Delivery). lentAfter s (d .number) (d .bytes) lent .grid) same ∙ sym (q .fills))
+
+-- ---- 7. a family that we do not know
+
+-- whatever is delivered to a session of it, in whatever state, is refused: 1 for a block's length, else 2; session and grid stay
+pub unknown-refused : (s : Session) → known (s .family) ≡ false → (lent : Lent) (c : Call) → Promised s lent c
+    → (c .returned ≡ record { answer = Refused (cond (eqb (length (c .sent .bytes)) 1024) 2 1) (c .sent .number) 0; session = s })
+    × (c .left .grid ≡ lent .grid)
+unknown-refused s k lent c p =
+    let v = unknown-wrong s k (c .sent .number) (c .sent .bytes) (roomOf lent) in
+    (p .answers ∙ ap (answerOf s) v, p .fills ∙ ap (λ (x : Verdict). lentBy lent x .grid) v)
