@@ -152,8 +152,7 @@ impl Kept {
         Kept::opened(USGS)
     }
 
-    /// "The caller names the family when opening a session; a fresh session has all else zero"
-    /// (02, request 2).
+    /// "The caller names the family" (02, request 2): behind zeros, and nothing else stands there.
     pub fn opened(family: i64) -> Kept {
         let mut numbers = [0; NUMBERS];
         numbers[place::FAMILY] = family;

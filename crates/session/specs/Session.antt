@@ -38,7 +38,7 @@ unread family h taken =
       family = family;
     }
 
--- 02, request 2: "The caller names the family when opening a session; a fresh session has all else zero"
+-- 02, request 2: "The caller names the family": whatever it is, nothing else stands in a session that is opened
 abbrev pub opened : ℕ → Session
 opened family = unread family freshHeader 0
 

@@ -150,6 +150,6 @@ rulesCanadian =
     ∷ canadianWhole
     ∷ [])
 
--- the rules of a family's record A: "with the family's rules here counted beside 01's, or in place of those they replace"
+-- the rules of a family's record A: 01's, with what request 2 puts beside them or in their place
 abbrev pub rulesFor : ℕ → List Clause
 rulesFor family = cond (isCanadian family) rulesCanadian rulesA
