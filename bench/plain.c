@@ -1,13 +1,17 @@
-/* Plain reading for bench/speed.sh: the blocks of standard input, fetched as the survey fetches them, and nothing done with them. */
+/* Plain reading for bench/speed.sh: the bytes of standard input, FETCH a call, and nothing done with them. */
 #include <stdio.h>
 #include <unistd.h>
 
+#ifndef FETCH
+#define FETCH 1024
+#endif
+
 int main(void)
 {
-    static char block[1024];
-    unsigned long blocks = 0;
-    while (read(0, block, sizeof block) > 0)
-        blocks++;
-    printf("%lu blocks\n", blocks);
+    static char bytes[FETCH];
+    unsigned long calls = 0;
+    while (read(0, bytes, sizeof bytes) > 0)
+        calls++;
+    printf("%lu calls of %lu bytes\n", calls, (unsigned long)sizeof bytes);
     return 0;
 }

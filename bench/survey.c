@@ -1,6 +1,7 @@
 /* A careful reader of elevation sheets in C, to document 01's rules, for the comparison of speed in bench/speed.sh: it lists the sheet on
    standard input as the survey does. (Its author had read crates/load/src, so it is no independent second reading.) It trusts its own
-   session: no test of soundness (kind 2). */
+   session: no test of soundness (kind 2). With -DFETCH=65536 it fetches so many bytes a read, as the survey does; without, a block a call of
+   fread, which reads 4,096 bytes at a time. */
 #include <stdint.h>
 #include <stdio.h>
 #include <string.h>
@@ -432,21 +433,31 @@ static void print_sheet(const session *s)
     printf("\nend %llu\n", (unsigned long long)s->taken);
 }
 
-volatile int64_t sum_kept; /* no line tells the sum, and a compiler would leave it out */
+#ifdef FETCH
+#include "fetch.h"
+#else
+#define FETCH BLOCK
+static size_t fetch(unsigned char *bytes) { return fread(bytes, 1, FETCH, stdin); }
+#endif
+
+/* No line tells the sum or a cell. A compiler would leave them out, if they were not to be seen from outside. */
+int32_t grid[CELLS];
+volatile int64_t sum_kept;
 
 int main(void)
 {
-    static unsigned char block[BLOCK];
-    static int32_t grid[CELLS];
+    static unsigned char bytes[FETCH];
     static session s;
     size_t got;
-    for (uint64_t number = 0; (got = fread(block, 1, BLOCK, stdin)) > 0; number++) {
-        answer a = deliver(&s, number, block, got, grid, CELLS);
-        if (a.kind > 0) {
-            printf("refused %d %llu %d\n", a.kind, (unsigned long long)a.block, a.byte);
-            return 0;
+    uint64_t number = 0;
+    while ((got = fetch(bytes)) > 0)
+        for (size_t at = 0; at < got; at += BLOCK, number++) {
+            answer a = deliver(&s, number, bytes + at, got - at < BLOCK ? got - at : BLOCK, grid, CELLS);
+            if (a.kind > 0) {
+                printf("refused %d %llu %d\n", a.kind, (unsigned long long)a.block, a.byte);
+                return 0;
+            }
         }
-    }
     sum_kept = s.seen.sum;
     if (s.taken && is_complete(&s))
         print_sheet(&s);

@@ -9,6 +9,7 @@
  * read, is as it was (1 or 0):
  *   'o' family, numbers                                  dem_open; the numbers after it
  *   'd' numbers, number, block, cells, room              dem_deliver; numbers, cells and the answer's slots after it
+ *   'r' numbers, number, blocks, cells, room             dem_deliver_run; the same after it
  *   's' numbers, length                                  dem_is_sound, dem_is_complete, dem_report; the report's bytes after it
  *   'c' block                                            dem_columns, dem_rows
  *   'F' family, block                                    kind, byte and origin of a record A, columns, rows, all by its family
@@ -18,6 +19,7 @@
  *   'G' cells, held                                      makes it, of so many cells that all hold this
  *   'D' numbers, number, block, lent, first, count, room dem_deliver with the front of it lent; numbers, `count` of its cells from
  *                                                        `first` on and the slots after it
+ *   'R' the same with blocks                             dem_deliver_run in the same way
  *   'k' first, count                                     so many of its cells
  * Kinds, bytes, origins and results have four bytes, values, counts and slots eight. 'n' hands over what is there. */
 #include "desk.h"
@@ -138,14 +140,17 @@ static void answer_open(struct request *asked) {
     hand_back(&session);
 }
 
-static void answer_deliver(struct request *asked) {
+/* dem_deliver and dem_deliver_run are lent the same. */
+typedef uint32_t delivery(int64_t *, size_t, uint32_t, const uint8_t *, size_t, int32_t *, size_t, uint64_t *, size_t);
+
+static void answer_deliver(struct request *asked, delivery *deliver) {
     size_t count, length, size;
     int64_t *numbers = lend_elements(&session, asked, sizeof *numbers, &count);
     uint32_t number = take_four(asked);
     uint8_t *bytes = lend_elements(&block, asked, 1, &length);
     int32_t *cells = lend_elements(&grid, asked, sizeof *cells, &size);
     size_t room = take_four(asked);
-    uint32_t result = dem_deliver(numbers, count, number, bytes, length, cells, size, lend_slots(room), room);
+    uint32_t result = deliver(numbers, count, number, bytes, length, cells, size, lend_slots(room), room);
     put((uint64_t)(guards_stand(&session) && is_as_it_was(&block) && guards_stand(&grid) && guards_stand(&slots)), 4);
     put(result, 4);
     hand_back(&session);
@@ -168,7 +173,7 @@ static void hand_back_kept(size_t first, size_t count) {
     fwrite(kept.whole + AROUND + first * width, width, count, stdout);
 }
 
-static void answer_deliver_kept(struct request *asked) {
+static void answer_deliver_kept(struct request *asked, delivery *deliver) {
     size_t count, length;
     int64_t *numbers = lend_elements(&session, asked, sizeof *numbers, &count);
     uint32_t number = take_four(asked);
@@ -176,7 +181,7 @@ static void answer_deliver_kept(struct request *asked) {
     size_t lent = take_four(asked), first = take_four(asked), shown = take_four(asked), room = take_four(asked);
     if (kept.whole == NULL || lent > kept.bytes / sizeof(int32_t)) stop("asked for a grid that is not kept");
     int32_t *cells = (int32_t *)(void *)(kept.whole + AROUND);
-    uint32_t result = dem_deliver(numbers, count, number, bytes, length, cells, lent, lend_slots(room), room);
+    uint32_t result = deliver(numbers, count, number, bytes, length, cells, lent, lend_slots(room), room);
     put((uint64_t)(guards_stand(&session) && is_as_it_was(&block) && guards_stand(&kept) && guards_stand(&slots)), 4);
     put(result, 4);
     hand_back(&session);
@@ -277,12 +282,14 @@ static void answer(int what, struct request asked) {
     case 'f': answer_field(asked.rest, asked.left); break;
     case 'a': answer_record_a(asked.rest, asked.left); break;
     case 'o': answer_open(&asked); break;
-    case 'd': answer_deliver(&asked); break;
+    case 'd': answer_deliver(&asked, dem_deliver); break;
+    case 'r': answer_deliver(&asked, dem_deliver_run); break;
     case 's': answer_session(&asked); break;
     case 'c': answer_columns(&asked); break;
     case 'F': answer_of_family(&asked); break;
     case 'G': answer_keep(&asked); break;
-    case 'D': answer_deliver_kept(&asked); break;
+    case 'D': answer_deliver_kept(&asked, dem_deliver); break;
+    case 'R': answer_deliver_kept(&asked, dem_deliver_run); break;
     case 'k': answer_look(&asked); break;
     case 'w': answer_write_block(&asked); break;
     case 'W': answer_write_sheet(&asked); break;

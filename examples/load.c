@@ -1,6 +1,8 @@
 /* The Load button: load STATE [FAMILY] <LINE
  * LINE is frames: a block's number in four bytes, the largest first, then its 1,024 bytes. STATE keeps session and grid between two
  * presses. Each refused frame gets a line `refused KIND BLOCK BYTE`; the last lines are the lister's four, or `unfinished TAKEN`.
+ * Frames are fetched as they come, many a read, and those whose numbers go up by one are delivered in one call: with the same answers, and
+ * the same STATE, as one by one.
  * FAMILY is 0 for a USGS sheet or 1 for a Canadian one. Left out, it is STATE's own, and 0 where there is no STATE yet; it is never guessed
  * from the bytes.
  *
@@ -26,7 +28,8 @@
 
 #include "desk.h"
 
-enum { BLOCK = 1024, MOST_CELLS = 2048 * 2048, KEEP_EVERY = 64 };
+enum { HEAD = 4, BLOCK = 1024, FRAME = HEAD + BLOCK, RUN = 64, ANSWER = 3 };
+enum { MOST_CELLS = 2048 * 2048, KEEP_EVERY = 64 };
 enum { DONE = 0, NOT_WRITTEN = 1, NOT_OURS = 2 };
 enum { NOT_NAMED = -1, NO_FAMILY = -2 };
 
@@ -42,7 +45,15 @@ struct desk {
     int32_t *grid; /* never NULL, also with no cells */
     size_t cells;
     uint64_t *answer;
-    uint8_t *block;
+    uint8_t *blocks; /* RUN of them; fewer stand at its end, so that what is lent ends where the slice does */
+    size_t loose;    /* blocks taken since STATE was kept */
+    int kept;        /* whether this press has kept it */
+};
+
+/* What has come over the line and is not delivered yet. */
+struct line {
+    uint8_t *frames; /* room for RUN of them */
+    size_t length;
 };
 
 /* Where it is kept, and with what permissions if a press before this one kept it. */
@@ -139,11 +150,17 @@ static int lend_grid(struct desk *desk, size_t cells)
     return 1;
 }
 
+/* Where so many bytes of blocks are put to be lent. */
+static uint8_t *blocks_of(const struct desk *desk, size_t length)
+{
+    return desk->blocks + RUN * BLOCK - length;
+}
+
 /* A grid too short for the session's sheet is told before the block is looked at, and a blank block is never taken: so one may ask. */
 static int is_too_short(struct desk *desk, size_t cells)
 {
-    memset(desk->block, ' ', BLOCK);
-    return dem_deliver(desk->session, DEM_SESSION, (uint32_t)desk->session[DEM_TAKEN], desk->block, BLOCK, desk->grid, cells, desk->answer, 2)
+    uint8_t *block = memset(blocks_of(desk, BLOCK), ' ', BLOCK);
+    return dem_deliver(desk->session, DEM_SESSION, (uint32_t)desk->session[DEM_TAKEN], block, BLOCK, desk->grid, cells, desk->answer, ANSWER)
            == 12;
 }
 
@@ -287,7 +304,7 @@ static int sync_folder(const char *folder)
 }
 
 /* STATE replaced whole, or left as it is. */
-static int keep(const struct desk *desk, const struct place *place)
+static int keep(struct desk *desk, const struct place *place)
 {
     size_t size = state_size(desk->cells);
     uint8_t *bytes = malloc(size);
@@ -303,6 +320,8 @@ static int keep(const struct desk *desk, const struct place *place)
     }
     if (!sync_folder(place->folder))
         return complain(NOT_WRITTEN, "it is written, but its folder is not synced", place->state);
+    desk->loose = 0;
+    desk->kept = 1;
     return DONE;
 }
 
@@ -368,47 +387,122 @@ static int find(struct place *place, const char *given)
 
 /* ---- The line ---- */
 
-/* The next frame's number and bytes. 0 at the line's end, also inside a number; a line that breaks off is one that ends. */
-static int next_frame(uint32_t *number, uint8_t *block, size_t *length)
+/* What is there, as far as there is room: a read waits only where there is nothing, for the line may stay open. 0 at the line's end; a line
+ * that breaks off is one that ends. */
+static int fetch(struct line *line)
 {
-    uint8_t head[4];
-    if (fread(head, 1, sizeof head, stdin) != sizeof head)
+    ssize_t n;
+    do
+        n = read(STDIN_FILENO, line->frames + line->length, RUN * FRAME - line->length);
+    while (n < 0 && errno == EINTR);
+    if (n <= 0)
         return 0;
-    *number = four_at(head);
-    *length = fread(block, 1, BLOCK, stdin);
+    line->length += (size_t)n;
     return 1;
 }
 
-/* Block 0 says how many cells its sheet has, so that none is refused for want of them. */
-static int make_room(struct desk *desk, uint32_t number, size_t length)
+/* How many of the frames are one run: each number is one more than the number before it, and behind the largest there is none. */
+static size_t run_length(const uint8_t *frames, size_t most)
 {
-    if (number != 0 || desk->session[DEM_TAKEN] != 0)
+    size_t count = 1;
+    while (count < most && four_at(frames + count * FRAME) == (uint64_t)four_at(frames) + count)
+        count++;
+    return count;
+}
+
+/* Block 0 says how many cells its sheet has, so that none is refused for want of them. In a run it can only be the first. */
+static int make_room(struct desk *desk, const uint8_t *frames)
+{
+    if (four_at(frames) != 0 || desk->session[DEM_TAKEN] != 0)
         return 1;
     uint32_t family = (uint32_t)desk->session[DEM_FAMILY];
-    uint64_t cells = dem_family_columns(family, desk->block, length) * dem_family_rows(family, desk->block, length);
+    const uint8_t *block = memcpy(blocks_of(desk, BLOCK), frames + HEAD, BLOCK);
+    uint64_t cells = dem_family_columns(family, block, BLOCK) * dem_family_rows(family, block, BLOCK);
     return cells <= desk->cells || lend_grid(desk, (size_t)cells);
 }
 
-/* All frames of the line. What was taken is kept every so often, and as soon as the sheet is complete: the line may stay open. */
+/* What was taken is kept every so often, and as soon as the sheet is complete: the line may stay open. */
+static int count_taken(struct desk *desk, const struct place *place, size_t taken)
+{
+    desk->loose += taken;
+    if (taken == 0 || (desk->loose < KEEP_EVERY && !dem_is_complete(desk->session, DEM_SESSION)))
+        return DONE;
+    return keep(desk, place);
+}
+
+/* Whether a frame was refused, which is then said at once. */
+static int tell_refusal(const struct desk *desk, uint32_t kind)
+{
+    if (kind == 0 || kind == DEM_HELD)
+        return 0;
+    printf("refused %" PRIu32 " %" PRIu64 " %" PRIu64 "\n", kind, desk->answer[0], desk->answer[1]);
+    return 1;
+}
+
+/* A call ends at the first refusal: the frames behind it go on as a run of their own. A sheet that became complete is kept before it is said
+ * that the next block is one too many. */
+static int take_run(struct desk *desk, const struct place *place, const uint8_t *frames, size_t count)
+{
+    uint32_t number = four_at(frames);
+    if (!make_room(desk, frames))
+        return complain(NOT_WRITTEN, "no memory for its grid", place->state);
+    for (size_t i = 0; i < count; i++)
+        memcpy(blocks_of(desk, (count - i) * BLOCK), frames + i * FRAME + HEAD, BLOCK);
+    while (count) {
+        int64_t before = desk->session[DEM_TAKEN];
+        uint32_t kind = dem_deliver_run(desk->session, DEM_SESSION, number, blocks_of(desk, count * BLOCK), count * BLOCK, desk->grid,
+                                        desk->cells, desk->answer, ANSWER);
+        int status = count_taken(desk, place, (size_t)(desk->session[DEM_TAKEN] - before));
+        if (status != DONE)
+            return status;
+        size_t done = tell_refusal(desk, kind) ? (size_t)desk->answer[2] + 1 : count;
+        number += (uint32_t)done;
+        count -= done;
+    }
+    return DONE;
+}
+
+/* The whole frames that are there, in runs no longer than what may be taken before STATE is kept. What is left moves to the front. */
+static int take_frames(struct desk *desk, const struct place *place, struct line *line)
+{
+    size_t at = 0;
+    int status = DONE;
+    while (status == DONE && line->length - at >= FRAME) {
+        const uint8_t *frames = line->frames + at;
+        size_t whole = (line->length - at) / FRAME, most = KEEP_EVERY - desk->loose;
+        size_t count = run_length(frames, whole < most ? whole : most);
+        status = take_run(desk, place, frames, count);
+        at += count * FRAME;
+    }
+    line->length -= at;
+    memmove(line->frames, line->frames + at, line->length);
+    return status;
+}
+
+/* A frame that the line's end cut short is delivered as it is; one cut inside its number is nothing. */
+static void take_cut(struct desk *desk, const struct line *line)
+{
+    if (line->length < HEAD)
+        return;
+    size_t length = line->length - HEAD;
+    uint8_t *block = memcpy(blocks_of(desk, length), line->frames + HEAD, length);
+    (void)tell_refusal(desk, dem_deliver(desk->session, DEM_SESSION, four_at(line->frames), block, length, desk->grid, desk->cells,
+                                         desk->answer, ANSWER));
+}
+
+/* All frames of the line. */
 static int take_line(struct desk *desk, const struct place *place)
 {
-    uint32_t number;
-    size_t length;
-    int kept = place->existed, loose = 0, status = DONE;
-    while (status == DONE && next_frame(&number, desk->block, &length)) {
-        if (!make_room(desk, number, length))
-            return complain(NOT_WRITTEN, "no memory for its grid", place->state);
-        uint32_t kind = dem_deliver(desk->session, DEM_SESSION, number, desk->block, length, desk->grid, desk->cells, desk->answer, 2);
-        if (kind != 0 && kind != DEM_HELD)
-            printf("refused %" PRIu32 " %" PRIu64 " %" PRIu64 "\n", kind, desk->answer[0], desk->answer[1]);
-        loose += kind == 0;
-        if (kind == 0 && (loose >= KEEP_EVERY || dem_is_complete(desk->session, DEM_SESSION))) {
-            status = keep(desk, place);
-            kept = 1;
-            loose = 0;
-        }
-    }
-    return status == DONE && (loose || !kept) ? keep(desk, place) : status;
+    struct line line = {malloc(RUN * FRAME), 0};
+    if (!line.frames)
+        return complain(NOT_WRITTEN, "no memory for its line", place->state);
+    int status = DONE;
+    while (status == DONE && fetch(&line))
+        status = take_frames(desk, place, &line);
+    if (status == DONE)
+        take_cut(desk, &line);
+    free(line.frames);
+    return status == DONE && (desk->loose || !(place->existed || desk->kept)) ? keep(desk, place) : status;
 }
 
 static void print_end(const struct desk *desk)
@@ -473,15 +567,15 @@ int main(int argc, char **argv)
     signal(SIGXFSZ, SIG_IGN);
     signal(SIGPIPE, SIG_IGN);
     setvbuf(stdout, NULL, _IOLBF, BUFSIZ); /* a refusal is seen at once, also through a pipe */
-    struct desk desk = {calloc(DEM_SESSION, sizeof *desk.session), NULL, 0, calloc(2, sizeof *desk.answer), malloc(BLOCK)};
+    struct desk desk = {calloc(DEM_SESSION, sizeof *desk.session), NULL, 0, calloc(ANSWER, sizeof *desk.answer), malloc(RUN * BLOCK), 0, 0};
     struct place place = {NULL, NULL, NULL, NULL, 0, 0};
-    if (!desk.session || !desk.answer || !desk.block || !lend_grid(&desk, 0))
+    if (!desk.session || !desk.answer || !desk.blocks || !lend_grid(&desk, 0))
         return complain(NOT_WRITTEN, "no memory", argv[1]);
     int status = press(&desk, &place, argv[1], family);
     free(desk.session);
     free(desk.grid);
     free(desk.answer);
-    free(desk.block);
+    free(desk.blocks);
     free(place.state);
     free(place.fresh);
     free(place.lock);

@@ -7,7 +7,8 @@
  *   - a pointer is never NULL, also with length 0;
  *   - it is aligned as its type asks;
  *   - slices lent to one call do not overlap, and nothing else writes to them until it returns.
- * Where a refusal is answered, nothing that was lent is changed but the numbers of the answer. */
+ * Where a refusal is answered, nothing that was lent is changed but the numbers of the answer. (Of a run this is said of the refused block:
+ * see dem_deliver_run.) */
 #ifndef DESK_H
 #define DESK_H
 
@@ -115,6 +116,15 @@ uint32_t dem_open(uint32_t family, int64_t *session, size_t numbers);
 /* One delivery, judged by the rules of the session's family: 0 taken, DEM_HELD, or a kind from 1 to 12, or 15. Answer: block, byte. */
 uint32_t dem_deliver(int64_t *session, size_t numbers, uint32_t number, const uint8_t *block, size_t length, int32_t *grid, size_t cells,
                      uint64_t *answer, size_t room);
+
+/* Several blocks in one call: `blocks` is whole blocks one behind the other, `number` that of the first. They are delivered in order, each as by
+ * dem_deliver, up to the first refusal: what was taken before it stays, the refused block changes nothing, and those behind it are not
+ * looked at. The result is the refusal's kind, else that of the last block: 0 taken, DEM_HELD where all of them were held. Answer: block and
+ * byte of the refusal, 0 and 0 where there is none, and third how many blocks were taken or held before it, or all of them.
+ * A length that is no multiple of 1,024 is 1, with the number given, byte 0 and count 0, before all else; no bytes at all are DEM_HELD and 0,
+ * and nothing else is looked at. */
+uint32_t dem_deliver_run(int64_t *session, size_t numbers, uint32_t number, const uint8_t *blocks, size_t length, int32_t *grid,
+                         size_t cells, uint64_t *answer, size_t room);
 
 /* 1 or 0. An unsound session and a fresh one are not complete. */
 uint32_t dem_is_sound(const int64_t *session, size_t numbers);

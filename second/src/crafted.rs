@@ -4,6 +4,7 @@
 pub mod alter;
 pub mod blocks;
 pub mod families;
+pub mod runs;
 pub mod sessions;
 pub mod sums;
 

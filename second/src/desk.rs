@@ -7,6 +7,7 @@ use crate::kept::{self, Kept, Told, DONE, NAMES, NUMBERS};
 use crate::kind::{GRID_TOO_SHORT, WRONG_LENGTH};
 use crate::meaning::Block;
 use crate::record_a;
+use crate::runs;
 use crate::write;
 use std::process::exit;
 
@@ -124,6 +125,7 @@ pub fn open(family: u32, numbers: &[i64]) -> Call {
 pub struct Delivery {
     pub numbers: Vec<i64>,
     pub number: u32,
+    /// Of a run, all its blocks.
     pub block: Block,
     pub grid: Vec<i32>,
     /// How many slots its answer has.
@@ -134,25 +136,46 @@ pub struct Delivery {
 #[derive(Clone, Debug, PartialEq)]
 pub struct Left {
     pub told: Told,
+    /// Which only a run tells.
+    pub count: Option<u32>,
     pub numbers: Vec<i64>,
     pub grid: Vec<i32>,
 }
 
+/// One block or a run, delivered to a session that is numbers.
+pub type Deliver<Answer> = fn(&mut [i64], u32, &[u8], &mut [i32]) -> Answer;
+
 impl Delivery {
     /// What the reading of sessions as numbers says.
     pub fn leaves(&self) -> Left {
-        let (mut numbers, mut grid) = (self.numbers.clone(), self.grid.clone());
-        let told = kept::deliver(&mut numbers, self.number, &self.block, &mut grid);
+        let (told, numbers, grid) = self.after(kept::deliver);
         Left {
             told,
+            count: None,
             numbers,
             grid,
         }
     }
 
+    /// The same of a run.
+    pub fn leaves_by_run(&self) -> Left {
+        let (ended, numbers, grid) = self.after(runs::deliver);
+        Left {
+            told: ended.told,
+            count: Some(ended.count),
+            numbers,
+            grid,
+        }
+    }
+
+    fn after<Answer>(&self, deliver: Deliver<Answer>) -> (Answer, Vec<i64>, Vec<i32>) {
+        let (mut numbers, mut grid) = (self.numbers.clone(), self.grid.clone());
+        let answer = deliver(&mut numbers, self.number, &self.block, &mut grid);
+        (answer, numbers, grid)
+    }
+
     pub fn call(&self, left: &Left) -> Call {
-        let beside = [left.told.block, left.told.byte].map(u64::from);
-        Call::new(b'd')
+        Call::new(if left.count.is_none() { b'd' } else { b'r' })
             .lends(SESSION, &of_numbers(&self.numbers))
             .says("number", self.number as usize)
             .lends("block", &of_bytes(&self.block))
@@ -161,8 +184,14 @@ impl Delivery {
             .gets_result(left.told.result)
             .gets(SESSION, &of_numbers(&left.numbers))
             .gets("cells", &of_cells(&left.grid))
-            .gets_slots(&beside, self.room)
+            .gets_slots(&beside(left.told, left.count), self.room)
     }
+}
+
+/// Block and byte, and the count of a run.
+fn beside(told: Told, count: Option<u32>) -> Vec<u64> {
+    let beside = [told.block, told.byte].into_iter().chain(count);
+    beside.map(u64::from).collect()
 }
 
 /// The C side keeps one grid, of so many cells that all hold this, for deliveries to large sheets.
@@ -197,16 +226,16 @@ pub struct Placed {
 
 impl Placed {
     /// What the reading of sessions as numbers says; `grid` is what the C side's must be.
-    pub fn leaves(&self, grid: &mut [i32]) -> (Told, Vec<i64>) {
+    pub fn leaves<Answer>(&self, deliver: Deliver<Answer>, grid: &mut [i32]) -> (Answer, Vec<i64>) {
         let mut numbers = self.numbers.clone();
         let lent = &mut grid[..self.lent];
-        let told = kept::deliver(&mut numbers, self.number, &self.block, lent);
-        (told, numbers)
+        let answer = deliver(&mut numbers, self.number, &self.block, lent);
+        (answer, numbers)
     }
 
-    pub fn call(&self, told: Told, numbers: &[i64], grid: &[i32]) -> Call {
-        let beside = [told.block, told.byte].map(u64::from);
-        Call::new(b'D')
+    /// A run has a count.
+    pub fn call(&self, told: Told, count: Option<u32>, numbers: &[i64], grid: &[i32]) -> Call {
+        Call::new(if count.is_none() { b'D' } else { b'R' })
             .lends(SESSION, &of_numbers(&self.numbers))
             .says("number", self.number as usize)
             .lends("block", &of_bytes(&self.block))
@@ -217,7 +246,7 @@ impl Placed {
             .gets_result(told.result)
             .gets(SESSION, &of_numbers(numbers))
             .gets("cells", &of_cells(&grid[self.window.clone()]))
-            .gets_slots(&beside, self.room)
+            .gets_slots(&beside(told, count), self.room)
     }
 }
 

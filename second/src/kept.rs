@@ -73,6 +73,14 @@ pub mod place {
 pub const HELD: u32 = 255;
 pub const DONE: u32 = 0;
 
+pub fn name_of(result: u32) -> String {
+    match result {
+        DONE => "taken".to_string(),
+        HELD => "held".to_string(),
+        kind => format!("refused {kind}"),
+    }
+}
+
 /// Filled cells and their running extremes, in hundredths; the extremes mean nothing
 /// while nothing is filled (READINGS 26).
 #[derive(Clone, Copy, Debug, Default, PartialEq)]

@@ -29,6 +29,7 @@ pub mod record_a;
 pub mod record_c;
 pub mod replay;
 pub mod runner;
+pub mod runs;
 pub mod scripts;
 pub mod sender;
 pub mod sheets;

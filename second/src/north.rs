@@ -3,14 +3,17 @@
 //! the whole grid is looked at once a sheet is through. What was taken must then be, number by
 //! number and cell by cell, what the joined text of the blocks means.
 
-use crate::block::Record;
+use crate::block::{Record, BLOCK_LENGTH};
 use crate::comparing::Counts;
 use crate::crafted::{blocks, families};
 use crate::desk::{self, Call, Placed, Window};
 use crate::dice::Dice;
 use crate::family::{CANADIAN, CANADIAN_SIDE};
-use crate::kept::{self, Kept, Told, DONE, HELD, NUMBERS};
+use crate::kept::{self, name_of, place, Kept, DONE, HELD, NUMBERS};
 use crate::meaning::{self, sum_of_cells, Block};
+use crate::runs;
+use crate::runs::line::{marked, Brought, Line};
+use crate::runs::shown::{Look, Seen};
 use crate::sheets::aimed::damaged_profile_block;
 use crate::sheets::canadian::{self, CELLS};
 use crate::sheets::{put, Plan, Sent};
@@ -25,6 +28,9 @@ pub const CRAFTED: usize = 3_000;
 /// Sheets that break off, and sheets that are sent to their end.
 pub const BROKEN_OFF: usize = 220;
 pub const WHOLE: usize = 2;
+/// Those that come by runs, and how many calls one of them has that breaks off.
+pub const BROKEN_OFF_BY_RUNS: usize = 300;
+const CALLS: usize = 8;
 
 /// The desk's end of the line, asked through `ask`.
 pub struct North<'a> {
@@ -34,8 +40,9 @@ pub struct North<'a> {
     numbers: Vec<i64>,
     /// The blocks that the session has taken.
     text: Vec<Block>,
-    /// What came of the blocks, by the record that was awaited.
+    /// What came of single blocks, by the record that was awaited, and of runs.
     pub answers: Counts,
+    pub runs: Seen,
     /// How sheets ended.
     pub ends: Counts,
 }
@@ -49,6 +56,7 @@ impl<'a> North<'a> {
             numbers: fresh(),
             text: Vec::new(),
             answers: Counts::default(),
+            runs: Seen::default(),
             ends: Counts::default(),
         }
     }
@@ -105,6 +113,50 @@ impl<'a> North<'a> {
         }
         // A block too many.
         self.send(dice, blocks.len() as u32, &blocks[1].bytes, CELLS);
+        self.end(true);
+    }
+
+    /// The first blocks of a sheet by runs, single blocks between them.
+    pub fn send_broken_off_by_runs(&mut self, dice: &mut Dice, turn: usize) {
+        let plan = canadian::plan(dice, 3);
+        let blocks = plan.blocks(dice);
+        let damaged = |dice: &mut Dice, due: &Sent| -> Block {
+            damaged_profile_block(dice, &plan.head.numbers, due)
+        };
+        let line = Line {
+            blocks: &blocks,
+            spoilt: &damaged,
+        };
+        self.begin();
+        for _ in 0..CALLS {
+            self.send_some(dice, &line);
+        }
+        self.end(turn % 3 == 1);
+    }
+
+    pub fn send_whole_by_runs(&mut self, dice: &mut Dice) {
+        let blocks = canadian::plan(dice, CANADIAN_SIDE).blocks(dice);
+        let line = Line {
+            blocks: &blocks,
+            spoilt: &marked,
+        };
+        self.begin();
+        while self.text.len() < blocks.len() {
+            self.send_some(dice, &line);
+        }
+        // And past its end.
+        for _ in 0..CALLS {
+            self.send_some(dice, &line);
+        }
+        self.end(true);
+    }
+
+    /// All blocks of a sheet in one run.
+    pub fn send_whole_at_once(&mut self, dice: &mut Dice) {
+        let blocks = canadian::plan(dice, CANADIAN_SIDE).blocks(dice);
+        self.begin();
+        let all = blocks.iter().flat_map(|sent| &sent.bytes);
+        self.send_a_run(dice, (0, all.copied().collect()), CELLS);
         self.end(true);
     }
 
@@ -202,22 +254,51 @@ impl<'a> North<'a> {
     }
 
     fn send(&mut self, dice: &mut Dice, number: u32, block: &[u8], lent: usize) {
-        let placed = Placed {
-            numbers: self.numbers.clone(),
-            number,
-            block: block.to_vec(),
-            lent,
-            window: window(&self.numbers),
-            room: dice.size(0, 3),
-        };
+        let placed = self.placed(dice, number, block, lent);
         let awaited = Kept::of(&self.numbers).awaits();
-        let (told, after) = placed.leaves(&mut self.grid);
-        self.answers.see(answer_name(awaited, told));
-        (self.ask)(placed.call(told, &after, &self.grid));
+        let (told, after) = placed.leaves(kept::deliver, &mut self.grid);
+        self.answers.see(answer_name(awaited, told.result));
+        (self.ask)(placed.call(told, None, &after, &self.grid));
         if told.result == DONE {
             self.text.push(block.to_vec());
         }
         self.numbers = after;
+    }
+
+    /// A run, or the block due alone.
+    fn send_some(&mut self, dice: &mut Dice, line: &Line) {
+        let next = self.text.len();
+        match dice.one_in(5) {
+            true => self.send(dice, next as u32, &line.block(next).bytes, CELLS),
+            false => {
+                let (brought, lent) = (line.brings(dice, next), self.any_lent(dice));
+                self.send_a_run(dice, brought, lent);
+            }
+        }
+    }
+
+    fn send_a_run(&mut self, dice: &mut Dice, (number, bytes): Brought, lent: usize) {
+        let placed = self.placed(dice, number, &bytes, lent);
+        let (ended, after) = placed.leaves(runs::deliver, &mut self.grid);
+        self.runs.see(&Look::at_placed(&placed, ended, &after));
+        (self.ask)(placed.call(ended.told, Some(ended.count), &after, &self.grid));
+        // What was taken stands behind what was held.
+        let taken = (after[place::TAKEN] - self.numbers[place::TAKEN]) as usize;
+        let passed = bytes.chunks(BLOCK_LENGTH).take(ended.count as usize);
+        let held = ended.count as usize - taken;
+        self.text.extend(passed.skip(held).map(<[u8]>::to_vec));
+        self.numbers = after;
+    }
+
+    fn placed(&self, dice: &mut Dice, number: u32, bytes: &[u8], lent: usize) -> Placed {
+        Placed {
+            numbers: self.numbers.clone(),
+            number,
+            block: bytes.to_vec(),
+            lent,
+            window: window(&self.numbers, bytes.len().div_ceil(BLOCK_LENGTH)),
+            room: dice.size(0, 3),
+        }
     }
 }
 
@@ -225,22 +306,24 @@ fn fresh() -> Vec<i64> {
     Kept::opened(CANADIAN).numbers().to_vec()
 }
 
-/// The cells around those that the next block fills; the end of the sheet where there is none.
-fn window(numbers: &[i64]) -> Window {
+/// The cells around those that so many next blocks fill; the end of the sheet where there is none.
+fn window(numbers: &[i64], blocks: usize) -> Window {
     let all = CELLS + SPARE;
     let end = CELLS - AROUND..all;
     let Some(kept) = kept::sound(&numbers[..NUMBERS]) else {
         return end;
     };
-    if !matches!(
-        kept.awaits(),
-        Some(Record::ProfileStart | Record::ProfileRest)
-    ) {
+    let has_cells = match kept.awaits() {
+        Some(Record::Header) => blocks > 1,
+        Some(record) => record != Record::Statistics,
+        None => false,
+    };
+    if !has_cells {
         return end;
     }
     let read = if kept.has_open() { kept.open.read } else { 0 };
     let south = (kept.closed * CANADIAN_SIDE + read) as usize;
-    south.saturating_sub(AROUND)..(south + 170 + AROUND).min(all)
+    south.saturating_sub(AROUND)..(south + 170 * blocks + AROUND).min(all)
 }
 
 /// Behind the posts of a first block lie four bytes.
@@ -250,27 +333,18 @@ fn with_a_mark_behind(dice: &mut Dice, due: &Sent) -> Vec<u8> {
     block
 }
 
-fn answer_name(awaited: Option<Record>, told: Told) -> String {
+fn answer_name(awaited: Option<Record>, result: u32) -> String {
     let what = match awaited {
         Some(Record::Header) => "block 0",
         Some(Record::ProfileStart) => "a profile's first block",
         Some(Record::ProfileRest) => "a further block",
         _ => "no block",
     };
-    match told.result {
-        DONE => format!("{what} awaited, taken"),
-        HELD => format!("{what} awaited, held"),
-        kind => format!("{what} awaited, refused {kind}"),
-    }
+    format!("{what} awaited, {}", name_of(result))
 }
 
 /// What a run must have met to count.
 pub fn answers() -> Vec<String> {
-    let told = |result: u32| Told {
-        result,
-        block: 0,
-        byte: 0,
-    };
     let mut names = Vec::new();
     for (record, results) in [
         (
@@ -287,13 +361,16 @@ pub fn answers() -> Vec<String> {
         ),
         (None, &[4]),
     ] {
-        names.extend(
-            results
-                .iter()
-                .map(|&result| answer_name(record, told(result))),
-        );
+        names.extend(results.iter().map(|&result| answer_name(record, result)));
     }
     names
+}
+
+/// No session here is unsound, and few numbers are too fine.
+pub fn answers_of_runs() -> Vec<String> {
+    let kinds = [1, 3, 4, 5, 6, 7, 9, 10, 11, 12, 15];
+    let results = [DONE, HELD].into_iter().chain(kinds);
+    results.map(name_of).collect()
 }
 
 pub const ENDS: [&str; 4] = [

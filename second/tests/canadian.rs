@@ -934,6 +934,10 @@ fn sheets_over_a_poor_line() {
         north.send_broken_off(dice, turn);
     }
     assert!(north.answers.all() > 400);
-    assert_eq!(north.ends.all(), 40);
-    assert!(calls > 480);
+    for turn in 0..20 {
+        north.send_broken_off_by_runs(dice, turn);
+    }
+    assert!(north.runs.answers.all() > 100);
+    assert_eq!(north.ends.all(), 60);
+    assert!(calls > 620);
 }

@@ -4,6 +4,7 @@ use Rattle.laws.proofs.Answers.{one-answer, OneLeft, OneResult}
 use Rattle.desk.proofs.dem_block_count.Reads as dem-block-count·told
 use Rattle.desk.proofs.dem_columns.Reads as dem-columns·told
 use Rattle.desk.proofs.dem_deliver.Reads as dem-deliver·told
+use Rattle.desk.proofs.dem_deliver_run.Reads as dem-deliver-run·told
 use Rattle.desk.proofs.dem_family_record_a_kind.Reads as dem-family-record-a-kind·told
 use Rattle.desk.proofs.dem_family_record_a_byte.Reads as dem-family-record-a-byte·told
 use Rattle.desk.proofs.dem_family_origin.Reads as dem-family-origin·told
@@ -75,6 +76,18 @@ dem-deliver-grid κs a z z′ e e′ p q = one-answer (p .1 .1 .0) (q .1 .1 .0)
 
 pub dem-deliver-answer : OneLeft dem-deliver·told.Learnt (λ κs e. now (e .1 .1 .1 .1 .0))
 dem-deliver-answer κs a z z′ e e′ p q = one-answer (p .1 .1 .1) (q .1 .1 .1)
+
+pub dem-deliver-run : OneResult dem-deliver-run·told.Learnt
+dem-deliver-run κs a z z′ e e′ p q = one-answer (p .0) (q .0)
+
+pub dem-deliver-run-session : OneLeft dem-deliver-run·told.Learnt (λ κs e. now (e .0))
+dem-deliver-run-session κs a z z′ e e′ p q = one-answer (p .1 .0) (q .1 .0)
+
+pub dem-deliver-run-grid : OneLeft dem-deliver-run·told.Learnt (λ κs e. now (e .1 .1 .1 .0))
+dem-deliver-run-grid κs a z z′ e e′ p q = one-answer (p .1 .1 .0) (q .1 .1 .0)
+
+pub dem-deliver-run-answer : OneLeft dem-deliver-run·told.Learnt (λ κs e. now (e .1 .1 .1 .1 .0))
+dem-deliver-run-answer κs a z z′ e e′ p q = one-answer (p .1 .1 .1) (q .1 .1 .1)
 
 pub dem-is-sound : OneResult dem-is-sound·told.Learnt
 dem-is-sound κs a z z′ e e′ p q = one-answer p q

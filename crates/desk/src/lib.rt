@@ -10,6 +10,7 @@ ghost use Rattle.delivery.specs.Deliver.{answerKind, answerPlace};
 ghost use Rattle.lines.specs.Lines.{Given};
 ghost use Rattle.slip.specs.Slip.{handed};
 ghost use Rattle.ledger.specs.Ledger.{openKind, openedWith, deliveredTo, gridLeft, numbersLeft, soundSaid, completeSaid, reportSaid};
+ghost use Rattle.courier.specs.Courier.{ranTo, numbersRun, gridRun, besideRun};
 ghost use Rattle.written.specs.Sending.{blockObjection, blockAfter, countOf, sentBy, sentKind, sheetSentObjection, sheetAfter};
 ghost use Rattle.desk.specs.Calls.{oneIf, columnsChecked, rowsChecked, sentBeside};
 use sheet::Checked;
@@ -133,6 +134,20 @@ pub extern "C" fn dem_deliver(
     ensures { λ r. ⌜ (r ≡ answerKind (deliveredTo (now (session .entry)) number (now (block .entry)) (now (grid .entry)) .answer)) × ((now (session .exit) ≡ numbersLeft (now (session .entry)) number (now (block .entry)) (now (grid .entry))) × ((now (grid .exit) ≡ gridLeft (now (session .entry)) number (now (block .entry)) (now (grid .entry))) × (now (answer .exit) ≡ handed (answerPlace (deliveredTo (now (session .entry)) number (now (block .entry)) (now (grid .entry)) .answer)) (now (answer .entry))))) ⌝ }
 {
     ledger::deliver(session, number, block, grid, answer)
+}
+
+// Several blocks in one call: as single deliveries in order, up to the first refusal; beside block and byte how many were taken or held.
+#[no_mangle]
+pub extern "C" fn dem_deliver_run(
+    session: &mut [i64],
+    number: u32,
+    blocks: &[u8],
+    grid: &mut [i32],
+    answer: &mut [u64],
+) -> u32
+    ensures { λ r. ⌜ (r ≡ answerKind (ranTo (now (session .entry)) number (now (blocks .entry)) (now (grid .entry)) .answer)) × ((now (session .exit) ≡ numbersRun (now (session .entry)) number (now (blocks .entry)) (now (grid .entry))) × ((now (grid .exit) ≡ gridRun (now (session .entry)) number (now (blocks .entry)) (now (grid .entry))) × (now (answer .exit) ≡ handed (besideRun (ranTo (now (session .entry)) number (now (blocks .entry)) (now (grid .entry)) .answer) (ranTo (now (session .entry)) number (now (blocks .entry)) (now (grid .entry)) .count)) (now (answer .entry))))) ⌝ }
+{
+    courier::deliver_run(session, number, blocks, grid, answer)
 }
 
 fn one_if(b: bool) -> u32

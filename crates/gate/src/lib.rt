@@ -10,20 +10,17 @@ ghost use mathlib.Core.Path.{_≡_};
 ghost use Prim.Native.Nat.{_^_, _<_};
 ghost use Rattle.sheet.specs.RecordA.{recordOf};
 ghost use Rattle.frame.specs.Frame.{cellsOf};
-ghost use Rattle.session.specs.Session.{begun};
+ghost use Rattle.session.specs.Session.{begun, complete};
+ghost use lib.Dec.{ltb, eqb};
+ghost use mathlib.Core.Bool.{true};
 ghost use Rattle.delivery.specs.Deliver.{beginning};
-ghost use Rattle.gate.specs.Gate.{room, gateOf, taken, judgedOf};
+ghost use Rattle.gate.specs.Gate.{room, gateBy, gateOf, taken, judgedOf};
 
-// The first tests, in document 01's order.
-pub fn gate(s: Session, number: u64, bytes: usize, cells: usize) -> Gate
-    ensures { λ r. ⌜ r ≡ gateOf s number bytes (room cells) ⌝ }
+// The tests behind length and soundness, in document 01's order. Whether the cells lent are enough for the session's sheet is asked by the
+// caller: it stays so from block to block.
+pub fn order(s: Session, number: u64, roomy: bool) -> Gate
+    ensures { λ r. ⌜ r ≡ gateBy true true (ltb number (s .taken)) (ltb (s .taken) number) (eqb number 0) (complete s) roomy ⌝ }
 {
-    if bytes != 1024 {
-        return Gate::Stop(1);
-    }
-    if !session::is_sound(s) {
-        return Gate::Stop(2);
-    }
     if number < s.taken {
         return Gate::Again;
     }
@@ -36,11 +33,25 @@ pub fn gate(s: Session, number: u64, bytes: usize, cells: usize) -> Gate
     if session::is_complete(s) {
         return Gate::Stop(4);
     }
-    let h = s.header;
-    if !frame::has_room(h, cells as u64) {
+    if !roomy {
         return Gate::Stop(12);
     }
     Gate::Later
+}
+
+// The first tests, in document 01's order.
+pub fn gate(s: Session, number: u64, bytes: usize, cells: usize) -> Gate
+    ensures { λ r. ⌜ r ≡ gateOf s number bytes (room cells) ⌝ }
+{
+    if bytes != 1024 {
+        return Gate::Stop(1);
+    }
+    if !session::is_sound(s) {
+        return Gate::Stop(2);
+    }
+    let h = s.header;
+    let roomy = frame::has_room(h, cells as u64);
+    order(s, number, roomy)
 }
 
 // A good block 0: its header, and every cell of its sheet void.

@@ -113,6 +113,13 @@ pub none-unsound : sound noSession ≡ false
 unfolding sound
 none-unsound = refl
 
+-- a session that is sound was said by numbers enough
+pub sound-enough : (numbers : List ℤ) → sound (sessionSaid numbers) ≡ true → sessionNumbers ≤ length numbers
+unfolding sessionSaid isSession
+sound-enough numbers t =
+    by-test (isSession numbers) (λ e. leb-true sessionNumbers (length numbers) (and-first (leb sessionNumbers (length numbers)) _ e))
+    (λ e. clash (sym t ∙ rw e none-unsound))
+
 abbrev taken? : Answer → Bool
 taken? Taken = true
 taken? Held = false
@@ -127,16 +134,10 @@ module _ (numbers : List ℤ) (number : ℕ) (block : List ℕ) (lent : Lent) wh
       by-test (sound (sessionSaid numbers)) (λ t. t)
       (λ t. clash (sym (ap taken? e) ∙ ap (λ (x : Delivered). taken? (x .answer)) (unsound-kept (sessionSaid numbers) number block lent t)))
 
-  taken-session : d .answer ≡ Taken → isSession numbers ≡ true
-  unfolding sessionSaid
-  taken-session e =
-      by-test (isSession numbers) (λ t. t) (λ t. clash (sym (taken-sound e) ∙ rw t none-unsound))
-
   pub keepable : Idle (sessionSaid numbers) → Keepable d numbers
-  unfolding isSession
   keepable i =
       record {
-        enough = λ e. leb-true sessionNumbers (length numbers) (and-first (leb sessionNumbers (length numbers)) _ (taken-session e));
+        enough = λ e. sound-enough numbers (taken-sound e);
         fits =
             λ e.
             row-is (d .session) (sound-out (sessionSaid numbers) number block lent (taken-sound e))

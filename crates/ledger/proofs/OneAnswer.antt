@@ -4,6 +4,7 @@ use Rattle.laws.proofs.Answers.{one-answer, OneLeft, OneResult}
 use Rattle.ledger.proofs.deliver.Reads as deliver·told
 use Rattle.ledger.proofs.is_complete.Reads as is-complete·told
 use Rattle.ledger.proofs.is_sound.Reads as is-sound·told
+use Rattle.ledger.proofs.keep.Reads as keep·told
 use Rattle.ledger.proofs.open.Reads as open·told
 use Rattle.ledger.proofs.report.Reads as report·told
 use Rattle.ledger.proofs.session_of.Reads as session-of·told
@@ -16,6 +17,9 @@ open-result κs a z z′ e e′ p q = one-answer (p .0) (q .0)
 
 pub open-session : OneLeft open·told.Learnt (λ κs e. now (e .1 .0))
 open-session κs a z z′ e e′ p q = one-answer (p .1) (q .1)
+
+pub keep-numbers : OneLeft keep·told.Learnt (λ κs e. now (e .1 .0))
+keep-numbers κs a z z′ e e′ p q = one-answer p q
 
 pub deliver : OneResult deliver·told.Learnt
 deliver κs a z z′ e e′ p q = one-answer (p .0) (q .0)

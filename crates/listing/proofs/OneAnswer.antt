@@ -3,16 +3,16 @@ use denote.Ref.{now}
 use Rattle.laws.proofs.Answers.{one-answer, OneLeft, OneResult}
 use Rattle.listing.proofs.begin.Reads as begin·told
 use Rattle.listing.proofs.put_last.Reads as put-last·told
-use Rattle.listing.proofs.take_block.Reads as take-block·told
+use Rattle.listing.proofs.take_bytes.Reads as take-bytes·told
 
 pub begin : OneResult begin·told.Learnt
 begin κs a z z′ e e′ p q = one-answer p q
 
-pub take-block : OneResult take-block·told.Learnt
-take-block κs a z z′ e e′ p q = one-answer (p .0) (q .0)
+pub take-bytes : OneResult take-bytes·told.Learnt
+take-bytes κs a z z′ e e′ p q = one-answer (p .0) (q .0)
 
-pub take-block-grid : OneLeft take-block·told.Learnt (λ κs e. now (e .1 .1 .1 .0))
-take-block-grid κs a z z′ e e′ p q = one-answer (p .1) (q .1)
+pub take-bytes-grid : OneLeft take-bytes·told.Learnt (λ κs e. now (e .1 .1 .0))
+take-bytes-grid κs a z z′ e e′ p q = one-answer (p .1) (q .1)
 
 pub put-last : OneResult put-last·told.Learnt
 put-last κs a z z′ e e′ p q = one-answer (p .0) (q .0)

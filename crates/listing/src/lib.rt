@@ -1,11 +1,10 @@
-// What the listers have in common: a block of the input delivered, and what document 01 prints at last. They read and write themselves.
+// What the listers have in common: bytes of the input delivered, and what document 01 prints at last. They read and write themselves.
 use delivery::Answer;
-use delivery::Delivered;
 use session::Session;
 ghost use mathlib.Core.Path.{_≡_};
 ghost use Rattle.lines.specs.Lines.{Given};
 ghost use Rattle.session.specs.Session.{fresh};
-ghost use Rattle.listing.specs.Turns.{turn, turnAfter, lastText, Steps};
+ghost use Rattle.listing.specs.Turns.{turn, turnAfter, lastText, ComesTo, stepped, ran, withRest, takenOf};
 
 // The stages of a listing: more may follow, the input is at its end, a block was refused.
 pub const MORE: u8 = 0;
@@ -42,11 +41,9 @@ pub fn begin() -> Turn
     goes_on(session::new())
 }
 
-fn after(d: Delivered) -> Turn
-    ensures { λ r. ⌜ r ≡ turnAfter (d .session) (d .answer) ⌝ }
+fn after(s: Session, answer: Answer) -> Turn
+    ensures { λ r. ⌜ r ≡ turnAfter s answer ⌝ }
 {
-    let s = d.session;
-    let answer = d.answer;
     match answer {
         Answer::Taken => goes_on(s),
         Answer::Held => goes_on(s),
@@ -60,9 +57,9 @@ fn after(d: Delivered) -> Turn
     }
 }
 
-// The next bytes of the input: none at its end, else a block or a part of one.
-pub fn take_block(s: Session, number: u64, block: &[u8], grid: &mut [i32]) -> Turn
-    ensures { λ r. ⌜ Steps s number (now (block .entry)) (now (grid .entry)) (now (grid .exit)) r ⌝ }
+// At most a block: none at the input's end, and a part of one is delivered as it is, and refused. Its number is that of the blocks taken.
+fn take_block(s: Session, block: &[u8], grid: &mut [i32]) -> Turn
+    ensures { λ r. ⌜ ComesTo (stepped s (now (block .entry)) (now (grid .entry))) (now (grid .exit)) r ⌝ }
 {
     if block.len() == 0 {
         return Turn {
@@ -73,8 +70,46 @@ pub fn take_block(s: Session, number: u64, block: &[u8], grid: &mut [i32]) -> Tu
             byte: 0,
         };
     }
-    let delivered = load::deliver(s, number, block, grid);
-    after(delivered)
+    let delivered = load::deliver(s, s.taken, block, grid);
+    let session = delivered.session;
+    let answer = delivered.answer;
+    after(session, answer)
+}
+
+// Whole blocks as one run. The first one's number is that of the blocks taken.
+fn take_run(s: Session, blocks: &[u8], grid: &mut [i32]) -> Turn
+    ensures { λ r. ⌜ ComesTo (ran s (now (blocks .entry)) (now (grid .entry))) (now (grid .exit)) r ⌝ }
+{
+    let ran = load::deliver_run(s, s.taken, blocks, grid);
+    let session = ran.session;
+    let answer = ran.answer;
+    after(session, answer)
+}
+
+// What is left behind a run's blocks: a short block, and only if none of those was refused.
+fn take_rest(t: Turn, rest: &[u8], grid: &mut [i32]) -> Turn
+    ensures { λ r. ⌜ ComesTo (withRest (record { turn = t; cells = now (grid .entry) }) (now (rest .entry))) (now (grid .exit)) r ⌝ }
+{
+    if t.stage != MORE {
+        return t;
+    }
+    if rest.len() == 0 {
+        return t;
+    }
+    let s = t.session;
+    take_block(s, rest, grid)
+}
+
+// The next bytes of the input: less than a block, or whole blocks as one run and what is left behind them.
+pub fn take_bytes(s: Session, bytes: &[u8], grid: &mut [i32]) -> Turn
+    ensures { λ r. ⌜ ComesTo (takenOf s (now (bytes .entry)) (now (grid .entry))) (now (grid .exit)) r ⌝ }
+{
+    if bytes.len() < 1024 {
+        return take_block(s, bytes, grid);
+    }
+    let whole = 1024 * (bytes.len() / 1024);
+    let t = take_run(s, &bytes[..whole], grid);
+    take_rest(t, &bytes[whole..], grid)
 }
 
 // The line or lines that end a listing. Answers the bytes used; none, and nothing changed, where they do not fit.

@@ -3,4 +3,5 @@ pub mod Judged
 pub mod Placed
 pub mod Readiness
 pub mod Applied
+pub mod Paces
 pub mod OneAnswer

@@ -1,23 +1,29 @@
 -- How the code takes a delivery apart: contracts of private functions. The public promise cites `deliverOf` and `lentAfter` alone.
 use mathlib.Core.List.{List}
 use mathlib.Core.Path.{_≡_}
-use mathlib.Core.Bool.{true, false}
+use mathlib.Core.Bool.{Bool, true, false, not}
+use lib.Dec.{leb}
 use Prim.Native.Nat.{ℕ, _+_, _*_, _^_, _≤_, _<_}
 use lib.IntN.{ℤ, natAbs}
 use lib.ListN.{take, length}
 use Rattle.frame.specs.Frame.{cellsOf, columnsOf, rowsOf, zOf}
 use Rattle.profile.specs.declared.record_b.Head.{Head}
 use Rattle.session.specs.declared.Session.{Session}
-use Rattle.session.specs.Session.{openBlocks, busy}
+use Rattle.session.specs.Session.{openBlocks, busy, sound}
 use Rattle.session.specs.declared.Profile.{Profile}
 use Rattle.ground.specs.declared.Tally.{Tally}
 use Rattle.ground.specs.Posts.{noTally, tallyAll}
 use Rattle.ground.specs.Extremes.{filledOnly, sumOf}
 use Rattle.posts.specs.Scan.{voided, placed}
-use Rattle.delivery.specs.Deliver.{Verdict, again, wrong, begins, fills}
+use Rattle.delivery.specs.declared.Answer.{Answer}
+use Rattle.delivery.specs.declared.Answer.the-variants.{Taken, Held, Refused}
+use Rattle.delivery.specs.Deliver.{lend, Verdict, again, wrong, begins, fills}
 use Rattle.delivery.specs.declared.Delivered.{Delivered}
 use Rattle.gate.specs.Gate.{judgedOf}
 use Rattle.gate.specs.declared.verdict.Judged.{Judged}
+use Rattle.runs.specs.declared.Ran.{Ran}
+use Rattle.runs.specs.Run.{Running, running, isRefused}
+use Rattle.load.specs.declared.run.Pace.{Pace}
 
 -- ---- what a sound session with block 0 taken gives the code
 
@@ -122,3 +128,22 @@ pub record Judging (s : Session) (v : Verdict) (cells : ℕ) (scratch : List ℤ
 abbrev pub ByTally : Session → (List ℤ → Verdict) → ℕ → Tally → ℤ → Judged → Type 0
 ByTally s v n u sum j =
     (hs : List ℤ) → n ≡ length hs → u ≡ tallyAll noTally hs → sum ≡ sumOf (filledOnly hs) → j ≡ judgedOf s (v hs)
+
+-- ---- a run
+
+-- where a run stands, by what it would return and the grid as it is
+abbrev pub standing : Ran → List ℤ → Running
+standing r grid = running (r .answer) (r .session) (lend grid) (r .count)
+
+-- after an answer: a taken block shows that the grid is long enough, a refused one is not counted and ends the run
+abbrev pub pacedBy : Bool → ℕ → Session → Answer → Pace
+pacedBy roomy count s Taken = record { ran = record { answer = Taken; session = s; count = count + 1 }; roomy = true; more = true }
+pacedBy roomy count s Held = record { ran = record { answer = Held; session = s; count = count + 1 }; roomy = roomy; more = true }
+pacedBy roomy count s (Refused kind block byte) =
+    record { ran = record { answer = Refused kind block byte; session = s; count = count }; roomy = roomy; more = false }
+
+-- what is known before each block
+pub record Pacing (cells : ℕ) (p : Pace) : Type 0 where
+  pub sound-is : sound (p .ran .session) ≡ true
+  pub room-is : leb (cellsOf (p .ran .session .header)) cells ≡ p .roomy
+  pub more-is : isRefused (p .ran .answer) ≡ not (p .more)

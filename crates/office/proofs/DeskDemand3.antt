@@ -33,13 +33,13 @@ use Rattle.office.specs.DeskCalls.{OpenPromised, DeskCall, DeskPromised,
 use Rattle.office.proofs.AsCalls.{asCall, asCalls, as-calls, as-promised, as-cells, as-sent, as-numbers, as-text, told-bytes}
 
 -- a fresh session's numbers, at the front of those that were lent
-opened-is : (family : ℕ) (room numbers : List ℤ) → OpenPromised family room 0 numbers → numbers ≡ kept (opened family) room
+pub opened-is : (family : ℕ) (room numbers : List ℤ) → OpenPromised family room 0 numbers → numbers ≡ kept (opened family) room
 opened-is family room numbers o =
     o .keeps
     ∙ by-test (leb sessionNumbers (length room)) (λ e. rw e)
     (λ e. let z : _≡_ {A = ℕ} 0 12 = rw e at (o .tells) in absurd (omega (arith, z)))
 
-opened-fresh : (family : ℕ) (room numbers : List ℤ) → OpenPromised family room 0 numbers → sessionSaid numbers ≡ opened family
+pub opened-fresh : (family : ℕ) (room numbers : List ℤ) → OpenPromised family room 0 numbers → sessionSaid numbers ≡ opened family
 opened-fresh family room numbers o = ap sessionSaid (opened-is family room numbers o) ∙ said-back (opened family) (drop sessionNumbers room)
 
 -- what is not taken leaves the numbers

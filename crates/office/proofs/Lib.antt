@@ -1,2 +1,4 @@
 pub mod AsCalls
 pub mod DeskDemand3
+pub mod AsArrivals
+pub mod DeskMixed

@@ -7,13 +7,19 @@ use borrow.Fn.World.{ArgsD, ResD}
 use Rattle.delivery.specs.Deliver.{lend}
 use Rattle.meaning.specs.Deliveries.{Promised}
 use Rattle.returns.specs.Writers.{Wrote, WroteSheet}
+use Rattle.arrivals.specs.Arrivals.{RunPromised}
 use Rattle.office.specs.DeskCalls.{OpenPromised, DeskPromised}
+use Rattle.office.specs.DeskArrivals.{RunPromisedC}
 use Rattle.desk.proofs.«dem_open» as dem-open
 use Rattle.desk.proofs.«dem_open».Reads as dem-open·reads
 use Rattle.desk.proofs.dem_deliver as dem_deliver
+use Rattle.desk.proofs.dem_deliver_run as dem_deliver_run
+use Rattle.desk.proofs.dem_deliver_run.Reads as dem_deliver_run·reads
 use Rattle.desk.proofs.dem_deliver.Reads as dem_deliver·reads
 use Rattle.load.proofs.deliver as deliver
 use Rattle.load.proofs.deliver.Reads as deliver·reads
+use Rattle.load.proofs.deliver_run as deliver_run
+use Rattle.load.proofs.deliver_run.Reads as deliver_run·reads
 use Rattle.send.proofs.write_block as write_block
 use Rattle.send.proofs.write_block.Reads as write_block·reads
 use Rattle.send.proofs.write_sheet as write_sheet
@@ -28,6 +34,12 @@ pub deliver-promises : (κs : Lfts 2) (a : ArgsD deliver.signature κs) (z : Res
       left = lend (now (e .1 .1 .1 .0));
     }
 deliver-promises κs a z e told = record { answers = told .0; fills = told .1 }
+
+pub deliver-run-promises : (κs : Lfts 2) (a : ArgsD deliver_run.signature κs) (z : ResD deliver_run.signature κs) (e : AtExit deliver_run.ended κs)
+    → deliver_run·reads.Learnt κs a z e
+    → RunPromised (a .0) (lend (now (a .1 .1 .1 .0)))
+    record { number = a .1 .0; blocks = now (a .1 .1 .0); returned = z; left = lend (now (e .1 .1 .1 .0)) }
+deliver-run-promises κs a z e told = record { answers = told .0; fills = told .1 }
 
 pub write-block-promises : (κs : Lfts 3) (a : ArgsD write_block.signature κs) (z : ResD write_block.signature κs) (e : AtExit write_block.ended κs)
     → write_block·reads.Learnt κs a z e
@@ -56,3 +68,17 @@ pub dem-deliver-promises : (κs : Lfts 4) (a : ArgsD dem_deliver.signature κs) 
       answer = now (e .1 .1 .1 .1 .0);
     }
 dem-deliver-promises κs a z e told = record { tells = told .0; keeps = told .1 .0; fills = told .1 .1 .0; hands = told .1 .1 .1 }
+
+pub dem-deliver-run-promises : (κs : Lfts 4) (a : ArgsD dem_deliver_run.signature κs) (z : ResD dem_deliver_run.signature κs) (e : AtExit dem_deliver_run.ended κs)
+    → dem_deliver_run·reads.Learnt κs a z e
+    → RunPromisedC (now (a .0)) (now (a .1 .1 .1 .0))
+    record {
+      number = a .1 .0;
+      blocks = now (a .1 .1 .0);
+      lent = now (a .1 .1 .1 .1 .0);
+      result = z;
+      session = now (e .0);
+      grid = now (e .1 .1 .1 .0);
+      answer = now (e .1 .1 .1 .1 .0);
+    }
+dem-deliver-run-promises κs a z e told = record { tells = told .0; keeps = told .1 .0; fills = told .1 .1 .0; hands = told .1 .1 .1 }

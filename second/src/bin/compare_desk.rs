@@ -12,10 +12,11 @@ use second::dice::Dice;
 use second::family::{CANADIAN, USGS};
 use second::kept::clauses::{self, clauses_of, FAMILY, NEGATIVE, TOO_FEW};
 use second::kept::place::FAMILY as FAMILY_PLACE;
-use second::kept::{self, HELD, NAMES, NUMBERS};
-use second::kind::{CORNER_DISAGREES, GRID_TOO_SHORT};
+use second::kept::{self, name_of, HELD, NAMES, NUMBERS};
+use second::kind::{CORNER_DISAGREES, GRID_TOO_SHORT, UNSOUND};
 use second::presses;
 use second::record_a::{self, Header};
+use second::runs::shown::{self, Look, Seen};
 use second::sheets::damage::damaged;
 use second::sheets::{head, Sent};
 use second::writings::{self, Asked};
@@ -24,6 +25,8 @@ const USAGE: &str = "compare_desk PROGRAM [SEED]";
 const USUAL_SEED: u64 = 19_970_106;
 const FEWEST_CRAFTED: usize = 100_000;
 const FEWEST_OF_SHEETS: usize = 3_000;
+const FEWEST_CRAFTED_RUNS: usize = 20_000;
+const FEWEST_RUNS_OF_SHEETS: usize = 2_000;
 const FEWEST_BLOCKS: usize = 3_000;
 const FEWEST_SHEETS: usize = 1_500;
 
@@ -52,6 +55,10 @@ struct Run {
     sums: Counts,
     /// And about the family.
     of_families: Counts,
+    crafted_runs: Seen,
+    runs_of_sheets: Seen,
+    /// What runs of both sorts showed.
+    runs: Counts,
     sessions: Counts,
     /// What was lent, and what came of it.
     lent: Counts,
@@ -76,6 +83,9 @@ impl Run {
             altered: Counts::default(),
             sums: Counts::default(),
             of_families: Counts::default(),
+            crafted_runs: Seen::default(),
+            runs_of_sheets: Seen::default(),
+            runs: Counts::default(),
             sessions: Counts::default(),
             lent: Counts::default(),
             blocks: Counts::default(),
@@ -172,6 +182,31 @@ impl Run {
         });
     }
 
+    fn run_to_crafted(&mut self, dice: &mut Dice) {
+        crafted::runs::all(dice, &mut |delivery| {
+            let left = delivery.leaves_by_run();
+            self.see_run(&delivery, &left, |run| &mut run.crafted_runs);
+            self.desk.ask(delivery.call(&left));
+        });
+    }
+
+    /// Single calls stand between the runs.
+    fn send_sheets_by_runs(&mut self, dice: &mut Dice) {
+        presses::by_runs(dice, &mut |delivery, left| {
+            self.see_run(&delivery, &left, |run| &mut run.runs_of_sheets);
+            self.desk.ask(delivery.call(&left));
+        });
+    }
+
+    fn see_run(&mut self, delivery: &Delivery, left: &Left, seen: fn(&mut Run) -> &mut Seen) {
+        if let Some(look) = Look::at(delivery, left) {
+            seen(self).see(&look);
+            for name in shown::shown(&look) {
+                self.runs.see(name);
+            }
+        }
+    }
+
     /// Records A of every size, and damaged ones, at times of another length.
     fn size_headers(&mut self, dice: &mut Dice) {
         for turn in 0..6_000 {
@@ -234,6 +269,11 @@ impl Run {
         self.sessions.print("sound, complete, report", &SESSIONS);
         self.of_sheets
             .print("whole sheets over a poor line", &answers_of_sheets());
+        self.crafted_runs
+            .print("runs to crafted sessions", &answers());
+        self.runs_of_sheets
+            .print("runs of whole sheets", &answers_of_runs());
+        self.runs.print("runs of both sorts", &shown::sights());
         self.blocks.print("dem_write_block", &told_of_a_block());
         self.hidden
             .print("  which refusal comes first", &writings::pairs_of_a_block());
@@ -242,22 +282,24 @@ impl Run {
             .print("  which refusal comes first", &writings::pairs_of_a_sheet());
     }
 
+    fn too_few(&self) -> Vec<String> {
+        let (crafted, sheets) = (&self.crafted_runs.answers, &self.runs_of_sheets.answers);
+        let fewest = [
+            (FEWEST_CRAFTED, "crafted deliveries", &self.crafted),
+            (FEWEST_OF_SHEETS, "deliveries of sheets", &self.of_sheets),
+            (FEWEST_CRAFTED_RUNS, "crafted runs", crafted),
+            (FEWEST_RUNS_OF_SHEETS, "runs of sheets", sheets),
+            (FEWEST_BLOCKS, "blocks of the writer", &self.blocks),
+            (FEWEST_SHEETS, "sheets of the writer", &self.sheets),
+        ];
+        let short = fewest.iter().filter(|few| few.2.all() < few.0);
+        short
+            .map(|(fewest, what, _)| format!("fewer than {fewest} {what}"))
+            .collect()
+    }
+
     fn shortcomings(&self) -> Vec<String> {
-        let mut found = Vec::new();
-        for (what, counts, fewest) in [
-            (
-                "deliveries to crafted sessions",
-                &self.crafted,
-                FEWEST_CRAFTED,
-            ),
-            ("deliveries of sheets", &self.of_sheets, FEWEST_OF_SHEETS),
-            ("blocks of the writer", &self.blocks, FEWEST_BLOCKS),
-            ("sheets of the writer", &self.sheets, FEWEST_SHEETS),
-        ] {
-            if counts.all() < fewest {
-                found.push(format!("fewer than {fewest} {what}"));
-            }
-        }
+        let mut found = self.too_few();
         found.extend(self.families.never_seen(&families()));
         found.extend(self.crafted.never_seen(&answers()));
         found.extend(self.broken.never_seen(&broken_alone()));
@@ -267,6 +309,9 @@ impl Run {
         found.extend(self.sessions.never_seen(&SESSIONS));
         found.extend(self.lent.never_seen(&all_lent_names()));
         found.extend(self.of_sheets.never_seen(&answers_of_sheets()));
+        found.extend(self.crafted_runs.answers.never_seen(&answers()));
+        found.extend(self.runs_of_sheets.answers.never_seen(&answers_of_runs()));
+        found.extend(self.runs.never_seen(&shown::sights()));
         found.extend(self.blocks.never_seen(&told_of_a_block()));
         found.extend(self.sheets.never_seen(&told_of_a_sheet()));
         found.extend(self.hidden.never_seen(&writings::pairs_of_a_block()));
@@ -339,14 +384,6 @@ fn families() -> Vec<&'static str> {
     names
 }
 
-fn name_of(result: u32) -> String {
-    match result {
-        kept::DONE => "taken".to_string(),
-        HELD => "held".to_string(),
-        _ => format!("refused {result}"),
-    }
-}
-
 fn answers() -> Vec<String> {
     let kinds = (1..=12).chain([CORNER_DISAGREES]).map(name_of);
     [kept::DONE, HELD]
@@ -356,11 +393,18 @@ fn answers() -> Vec<String> {
         .collect()
 }
 
-/// The desk's own sessions are sound, its grids long enough, and these sheets USGS.
-fn answers_of_sheets() -> Vec<String> {
+/// The desk's own sessions are sound, and these sheets USGS.
+fn answers_of_runs() -> Vec<String> {
     let mut names = answers();
-    let others = [2, 12, CORNER_DISAGREES].map(name_of);
+    let others = [UNSOUND, CORNER_DISAGREES].map(name_of);
     names.retain(|name| !others.contains(name));
+    names
+}
+
+/// With single deliveries, its grids are long enough too.
+fn answers_of_sheets() -> Vec<String> {
+    let mut names = answers_of_runs();
+    names.retain(|name| *name != name_of(GRID_TOO_SHORT));
     names
 }
 
@@ -420,6 +464,8 @@ fn main() {
     run.part(Run::deliver_to_crafted);
     run.part(Run::size_headers);
     run.part(Run::write);
+    run.part(Run::run_to_crafted);
+    run.part(Run::send_sheets_by_runs);
     run.desk.hold_against_answers();
     run.print_tables();
     let shortcomings = run.shortcomings();

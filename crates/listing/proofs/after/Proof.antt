@@ -22,18 +22,14 @@ enum-known-answer c = search needs
 
 returns : tie.Need-returns
 returns c =
-    let d = c .before .before .before .before .args .d in
-    c .goes-on .ensures ∙ ap (turnAfter (d .session)) (sym (c .before .enum-told .given .1))
+    let a = c .before .before .before .args in c .goes-on .ensures ∙ ap (turnAfter (a .s)) (sym (c .before .enum-told .given .1))
 
 returns-2 : tie.Need-returns-2
 returns-2 c =
-    let d = c .before .before .before .before .args .d in
-    c .goes-on2 .ensures ∙ ap (turnAfter (d .session)) (sym (c .before .enum-told2 .given .1))
+    let a = c .before .before .before .args in c .goes-on2 .ensures ∙ ap (turnAfter (a .s)) (sym (c .before .enum-told2 .given .1))
 
 returns-3 : tie.Need-returns-3
-returns-3 c =
-    let d = c .before .before .before .before .args .d in
-    ap (turnAfter (d .session)) (sym (c .before .answer .given .1))
+returns-3 c = let a = c .before .before .before .args in ap (turnAfter (a .s)) (sym (c .before .answer .given .1))
 
 pub after-spec : {M : Type 1} → statement M
 after-spec =

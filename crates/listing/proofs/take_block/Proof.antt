@@ -21,7 +21,7 @@ same-length c = search needs
 
 returns-2 : tie.Need-returns-2
 returns-2 c =
-    let d = c .before .before in
+    let d = c .before .before .before in
     rw (ne-eqb _ _ (d .before .before .if1 .left)) (
       c .after .ensures ∙ ap (λ (x : Delivered). turnAfter (x .session) (x .answer)) (d .deliver .ensures .0),
       d .deliver .ensures .1,

@@ -11,7 +11,10 @@ use Rattle.survey.proofs.list.Tie as tie
 
 used-within : (c : tie.After-put-last) → c .put-last .result ≤ length (c .put-last .last .1 .0)
 used-within c =
-    given-fits (lastText (c .before .before .before .all-blocks .result)) (replicate 512 0) (c .put-last .ensures) (c .put-last .kept .1 .0)
+    given-fits (lastText (c .before .before .before .before .all-blocks .result)) (replicate 512 0) (c .put-last .ensures) (c .put-last .kept .1 .0)
+
+slice-aggregate-all-blocks : tie.Need-slice-aggregate-all-blocks
+slice-aggregate-all-blocks c = search needs
 
 all-blocks-requires : tie.Need-all-blocks-requires
 all-blocks-requires c κs = search needs
@@ -37,14 +40,13 @@ same-length : tie.Need-same-length
 same-length c = search needs
 
 returns : tie.Need-returns
-returns c =
-    let blocks = c .before .before .before .before .before .before .all-blocks in
-    record { last = blocks .result; listed = blocks .ensures }
+returns c = search needs
 
 pub list-spec : {M : Type 1} → statement M
 list-spec =
     tie.close
     (tie.spec
+    slice-aggregate-all-blocks
     all-blocks-requires
     slice-aggregate-put-last
     put-last-requires

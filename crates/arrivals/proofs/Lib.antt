@@ -1,0 +1,2 @@
+pub mod AsSingles
+pub mod MixedDemand3
