@@ -20,10 +20,10 @@ use Rattle.delivery.specs.declared.Delivered.{Delivered}
 use Rattle.delivery.specs.Deliver.{Lent, lend, roomOf, Verdict, verdictOf, answerOf, deliverOf, lentAfter}
 use Rattle.delivery.proofs.SoundOut.{sound-out}
 use Rattle.gate.specs.Gate.{room, gateBy, gateOf}
-use Rattle.runs.specs.Run.{Running, running, isRefused, isTaken, counted, withBlock, goOn, runTo, runOf, ranOf}
+use Rattle.runs.specs.Run.{Running, running, isRefused, counted, withBlock, goOn, runTo, runOf, ranOf}
 use Rattle.runs.specs.declared.Ran.{Ran}
 use Rattle.runs.proofs.RunLaws.{goes-on, run-next, run-stays, count-most}
-use Rattle.runs.proofs.Passed.{Shows, shown, unmoved}
+use Rattle.runs.proofs.Passed.{isTaken, Shows, shown, unmoved}
 use Rattle.load.specs.declared.run.Pace.{Pace}
 use Rattle.load.specs.Steps.{Pacing, standing, pacedBy}
 

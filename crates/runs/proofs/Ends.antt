@@ -14,8 +14,8 @@ use Rattle.session.specs.Session.{sound}
 use Rattle.delivery.specs.declared.Answer.{Answer}
 use Rattle.delivery.specs.declared.Answer.the-variants.{Taken, Held, Refused}
 use Rattle.delivery.specs.Deliver.{Lent, roomOf, Verdict, again, wrong, begins, fills, verdictOf, answerOf, lentBy, deliverOf}
-use Rattle.runs.specs.Run.{Running, running, setOut, isRefused, isTaken, counted, withBlock, runTo, runOf}
-use Rattle.runs.proofs.Passed.{unmoved}
+use Rattle.runs.specs.Run.{Running, running, setOut, isRefused, counted, withBlock, runTo, runOf}
+use Rattle.runs.proofs.Passed.{isTaken, unmoved}
 use Rattle.runs.proofs.RunLaws.{run-none, run-more, ended, goes-on, run-unsound}
 
 -- ---- what is counted

@@ -24,9 +24,15 @@ use Rattle.ground.specs.Posts.{postsRestFault}
 use Rattle.session.specs.declared.Session.{Session}
 use Rattle.session.specs.declared.Profile.{Profile}
 use Rattle.session.specs.Session.{sound, complete, busy, openBlocks}
-use Rattle.delivery.specs.declared.Answer.the-variants.{Taken}
+use Rattle.delivery.specs.declared.Answer.{Answer}
+use Rattle.delivery.specs.declared.Answer.the-variants.{Taken, Held, Refused}
 use Rattle.delivery.specs.Deliver.{Room, tooShort, Verdict, again, wrong, begins, fills, postsHere, filling, filledSession, closeFault, opening, later, beginning, columnFits, columnPlace, rowFits, rowPlace, firstColumn, opened, heightsHere, further, unless, finishedSession, verdictOf, answerOf}
-use Rattle.runs.specs.Run.{isRefused, isTaken}
+use Rattle.runs.specs.Run.{isRefused}
+
+abbrev pub isTaken : Answer → Bool
+isTaken Taken = true
+isTaken Held = false
+isTaken (Refused kind block byte) = false
 
 -- what a verdict that takes a block leaves
 abbrev TakenBy : Session → Room → Verdict → Type 0

@@ -30,11 +30,6 @@ isRefused Taken = false
 isRefused Held = false
 isRefused (Refused kind block byte) = true
 
-abbrev pub isTaken : Answer → Bool
-isTaken Taken = true
-isTaken Held = false
-isTaken (Refused kind block byte) = false
-
 -- "how many were taken or held": a refused block is not counted
 abbrev pub counted : Answer → ℕ → ℕ
 counted Taken n = n + 1
