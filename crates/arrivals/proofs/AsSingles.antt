@@ -1,25 +1,23 @@
 -- Runs are single deliveries: the calls behind a run keep the promise of `deliver`, and leave what the run leaves.
-use mathlib.Core.Bool.{true, false, cond}
-use mathlib.Core.List.{List, [], _∷_, _++_, map}
-use mathlib.Core.Path.{_≡_, refl, sym, _∙_, ap, ap₂, subst}
-use Prim.Native.Nat.{ℕ, zero, suc, _+_, _%_, _≤_, _<_}
+use mathlib.Core.Bool.{false}
+use mathlib.Core.List.{List, [], _∷_, _++_}
+use mathlib.Core.Path.{_≡_, refl, sym, _∙_, ap, subst}
+use Prim.Native.Nat.{ℕ, zero, suc, _+_, _%_}
 use native.Mathlib.Omega.{arith}
 use lib.Dec.{eqb}
 use lib.IntN.{ℤ}
 use lib.ListN.{length}
-use Rattle.laws.proofs.Tests.{by-test, clash}
+use Rattle.laws.proofs.Tests.{by-test}
 use Rattle.laws.proofs.Lists.{append-nil, append-brackets}
 use Rattle.ground.specs.Blocks.{blockAt, blocksIn}
 use Rattle.session.specs.declared.Session.{Session}
-use Rattle.delivery.specs.declared.Answer.{Answer}
-use Rattle.delivery.specs.declared.Answer.the-variants.{Taken, Held, Refused}
-use Rattle.delivery.specs.Deliver.{Lent, lend, deliverOf}
+use Rattle.delivery.specs.Deliver.{Lent, lend}
 use Rattle.runs.specs.declared.Ran.{Ran}
-use Rattle.runs.specs.Run.{Running, isRefused, counted, withBlock, goOn, runTo, runOf, ranOf}
+use Rattle.runs.specs.Run.{Running, isRefused, withBlock, runTo, runOf}
 use Rattle.runs.proofs.RunLaws.{run-none, run-more, ended, goes-on}
 use Rattle.runs.proofs.Ends.{answer, stays, steps, counted-one, all-counted}
-use Rattle.meaning.specs.Deliveries.{Delivery, Call, Promised, Calls, noCall, called, sessionAfter, gridAfter, takenText, bytesIf, deliveries}
-use Rattle.arrivals.specs.Arrivals.{RunCall, RunPromised, Arrival, single, several, Arrivals, noneYet, oneMore, runMore, sessionLast, gridLast, callOf, callsTo, runCalls, singles, sentTo, lookedAt}
+use Rattle.meaning.specs.Deliveries.{Delivery, Call, Calls, noCall, called, sessionAfter, gridAfter, takenText, bytesIf, deliveries}
+use Rattle.arrivals.specs.Arrivals.{RunCall, RunPromised, Arrival, Arrivals, noneYet, oneMore, runMore, sessionLast, gridLast, callOf, callsTo, runCalls, singles, sentTo, lookedAt}
 
 -- ---- calls joined
 

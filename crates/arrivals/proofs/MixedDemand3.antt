@@ -1,7 +1,7 @@
 -- Demand 3, the front door where runs of blocks arrive too (02, request 3), for each family that we know. Everything here is said of calls of
 -- `load::deliver` and `load::deliver_run`, mixed in any order, each of which keeps its promise word for word (paper, proof Contracts), session
 -- and grid handed back as last returned. They come to single deliveries, so every theorem of Demand3 holds of them.
-use mathlib.Core.Bool.{true, false, cond}
+use mathlib.Core.Bool.{true, false}
 use mathlib.Core.List.{List, _++_}
 use mathlib.Core.Logic.{_↔_}
 use mathlib.Core.Path.{_≡_, refl, sym, _∙_, ap, subst}
@@ -14,16 +14,15 @@ use Rattle.ground.specs.Blocks.{blockAt, blocksIn}
 use Rattle.ground.specs.Posts.{void}
 use Rattle.session.specs.declared.Session.{Session}
 use Rattle.session.specs.Session.{opened}
-use Rattle.delivery.specs.declared.Answer.{Answer}
-use Rattle.delivery.specs.declared.Answer.the-variants.{Taken, Held, Refused}
-use Rattle.delivery.specs.Deliver.{lend, roomOf, deliverOf, lentAfter}
+use Rattle.delivery.specs.declared.Answer.the-variants.{Taken}
+use Rattle.delivery.specs.Deliver.{lend, roomOf}
 use Rattle.runs.specs.declared.Ran.{Ran}
-use Rattle.runs.specs.Run.{Running, isRefused, runTo, runOf, ranOf}
+use Rattle.runs.specs.Run.{Running, isRefused, runTo, ranOf}
 use Rattle.meaning.specs.Text.{profilesIn, cellsIn, postsIn, heightIn, cellOfPost}
 use Rattle.meaning.specs.Means.{sessionOf, gridOf}
 use Rattle.meaning.specs.Deliveries.{Call, Calls, Promised, Fresh, sessionAfter, gridAfter, takenText, deliveries, answerTo, Due, Holds}
 use Rattle.meaning.proofs.Demand3 as Demand3
-use Rattle.arrivals.specs.Arrivals.{RunCall, RunPromised, Arrival, FreshArrivals, sessionLast, gridLast, callOf, callsTo, runCalls, singles, sentTo, lookedAt}
+use Rattle.arrivals.specs.Arrivals.{RunCall, RunPromised, Arrival, FreshArrivals, sessionLast, gridLast, callOf, callsTo, singles, sentTo, lookedAt}
 use Rattle.arrivals.proofs.AsSingles.{singles-behind, behind, calls-joined, after-joined, grid-joined, taken-joined, sent-are}
 use Rattle.runs.proofs.Ends.{answer, all-counted, refused-leaves}
 

@@ -1,18 +1,18 @@
 -- What a run keeps as numbers is its session: where it took a block, the session was sound and said by numbers enough.
-use mathlib.Core.Bool.{Bool, true, false, cond}
+use mathlib.Core.Bool.{true, false, cond}
 use mathlib.Core.List.{List, _++_}
-use mathlib.Core.Path.{_≡_, refl, sym, _∙_, ap}
-use Prim.Native.Nat.{ℕ, _<_}
+use mathlib.Core.Path.{_≡_, refl, _∙_, ap}
+use Prim.Native.Nat.{ℕ}
 use native.Mathlib.Omega.{arith}
 use borrow.Author.Tests.{le-leb, ltb-true}
 use lib.Dec.{leb, ltb}
 use lib.IntN.{ℤ}
 use lib.ListN.{length, drop}
-use Rattle.laws.proofs.Tests.{by-test, clash}
+use Rattle.laws.proofs.Tests.{by-test}
 use Rattle.session.specs.declared.Session.{Session}
 use Rattle.session.specs.Session.{sound}
 use Rattle.delivery.specs.declared.Delivered.{Delivered}
-use Rattle.delivery.specs.Deliver.{Lent, lend, deliverOf}
+use Rattle.delivery.specs.Deliver.{lend}
 use Rattle.delivery.proofs.SoundOut.{Idle, sound-out, idle-out, unsound-kept}
 use Rattle.runs.proofs.RunLaws.{ran-keeps}
 use Rattle.ledger.specs.Numbers.{numbersOf, sessionNumbers}

@@ -9,9 +9,9 @@ ghost use Prim.Native.Nat.{_≤_, _<_, _^_};
 ghost use lib.ListN.{length};
 ghost use Rattle.ground.specs.Blocks.{blocksIn};
 ghost use Rattle.session.specs.Session.{sound};
-ghost use Rattle.delivery.specs.Deliver.{lend, deliverOf};
+ghost use Rattle.delivery.specs.Deliver.{lend};
 ghost use Rattle.delivery.specs.declared.Answer.the-variants.{Held, Refused};
-ghost use Rattle.runs.specs.Run.{running, withBlock, runTo, ranOf};
+ghost use Rattle.runs.specs.Run.{withBlock, runTo};
 ghost use Rattle.load.specs.Steps.{Pacing, standing, pacedBy};
 
 // Where a run stands: what it would return, whether the cells lent are enough for the session's sheet, and whether no block was refused.

@@ -1,7 +1,6 @@
 -- Calls of `dem_deliver_run`, alone or mixed with `dem_deliver`, are calls of `deliver_run` and `deliver`: the numbers say the session as last
 -- returned.
-use Prim.Native.Nat.{ℕ}
-use mathlib.Core.Bool.{true, false}
+use mathlib.Core.Bool.{false}
 use mathlib.Core.List.{List, [], _∷_}
 use mathlib.Core.Path.{_≡_, refl, sym, _∙_, ap, subst}
 use lib.Dec.{ltb}
@@ -17,7 +16,7 @@ use Rattle.ledger.specs.Numbers.{kept, sessionNumbers}
 use Rattle.ledger.specs.Ledger.{sessionSaid}
 use Rattle.ledger.proofs.Inverse.{said-back}
 use Rattle.courier.specs.Courier.{ranTo}
-use Rattle.office.specs.DeskArrivals.{DeskRun, RunPromisedC, DeskArrival, deskBlock, deskRun, DeskArrivals, noneYet as noDeskYet, oneMore as oneDeskMore, runMore as runDeskMore, numbersLast, cellsLast}
+use Rattle.office.specs.DeskArrivals.{DeskRun, DeskRunPromised, DeskArrival, deskBlock, deskRun, DeskArrivals, noneYet as noDeskYet, oneMore as oneDeskMore, runMore as runDeskMore, numbersLast, cellsLast}
 use Rattle.office.proofs.AsCalls.{asCall, as-promised, call-says, call-keeps}
 
 -- ---- one run
@@ -26,11 +25,11 @@ abbrev pub asRun : List ℤ → List ℤ → DeskRun → RunCall
 asRun numbers grid c =
     record { number = c .number; blocks = c .blocks; returned = ranOf (ranTo numbers (c .number) (c .blocks) grid); left = lend (c .grid) }
 
-pub as-run-promised : {numbers grid : List ℤ} {c : DeskRun} → RunPromisedC numbers grid c
+pub as-run-promised : {numbers grid : List ℤ} {c : DeskRun} → DeskRunPromised numbers grid c
     → RunPromised (sessionSaid numbers) (lend grid) (asRun numbers grid c)
 as-run-promised p = record { answers = refl; fills = p .fills }
 
-module _ {numbers grid : List ℤ} {c : DeskRun} (p : RunPromisedC numbers grid c) where
+module _ {numbers grid : List ℤ} {c : DeskRun} (p : DeskRunPromised numbers grid c) where
   abbrev s : Session
   s = sessionSaid numbers
 

@@ -1,6 +1,6 @@
 -- Demand 3 for C where runs arrive too (02, request 3), for each family that we know: one call of `dem_open` that answered 0, and behind it any
 -- list of `dem_deliver` and `dem_deliver_run`, mixed, numbers and grid handed back as last left; each keeps its promise word for word.
-use Prim.Native.Nat.{ℕ, _≤_}
+use Prim.Native.Nat.{ℕ}
 use mathlib.Core.Bool.{true}
 use mathlib.Core.List.{List}
 use mathlib.Core.Path.{_≡_, sym, _∙_, ap, subst}
@@ -9,11 +9,9 @@ use lib.ListN.{drop}
 use Rattle.laws.specs.Family.{known}
 use Rattle.ground.specs.Blocks.{blocksIn}
 use Rattle.session.specs.declared.Session.{Session}
-use Rattle.session.specs.Session.{opened}
-use Rattle.delivery.specs.declared.Answer.{Answer}
 use Rattle.delivery.specs.Deliver.{lend, answerKind}
 use Rattle.meaning.specs.Means.{sessionOf, gridOf}
-use Rattle.arrivals.specs.Arrivals.{Arrival, Arrivals, FreshArrivals, sessionLast, gridLast, RunPromised}
+use Rattle.arrivals.specs.Arrivals.{Arrival, Arrivals, FreshArrivals, sessionLast, RunPromised}
 use Rattle.arrivals.proofs.MixedDemand3 as Mixed
 use Rattle.slip.specs.Slip.{handed}
 use Rattle.ledger.specs.Numbers.{kept, sessionNumbers}
@@ -21,7 +19,7 @@ use Rattle.ledger.specs.Ledger.{sessionSaid}
 use Rattle.ledger.proofs.Inverse.{said-back}
 use Rattle.courier.specs.Courier.{besideRun}
 use Rattle.office.specs.DeskCalls.{OpenPromised}
-use Rattle.office.specs.DeskArrivals.{DeskRun, RunPromisedC, DeskArrival, DeskArrivals, numbersLast, cellsLast}
+use Rattle.office.specs.DeskArrivals.{DeskRun, DeskRunPromised, DeskArrival, DeskArrivals, numbersLast, cellsLast}
 use Rattle.office.proofs.AsArrivals.{asRun, as-run-promised, asArrivals, as-arrivals, cells-last, numbers-last}
 use Rattle.office.proofs.DeskDemand3.{opened-is, opened-fresh}
 
@@ -63,14 +61,14 @@ module _ (family : ℕ) (ours : known family ≡ true) (room numbers lent : List
   lent-until-block-0 none = sym (cells-last numbers lent xs) ∙ Mixed.lent-until-block-0 family ours lent behind as-fresh none
 
   -- the next run is one of `deliver_run` to the session and grid behind, so all that Mixed says of a run holds of it
-  pub next-run : (c : DeskRun) → RunPromisedC left grid c
+  pub next-run : (c : DeskRun) → DeskRunPromised left grid c
       → RunPromised (Mixed.session family ours lent behind as-fresh) (lend (Mixed.grid family ours lent behind as-fresh)) (asRun left grid c)
   next-run c p =
       subst (λ (g : List ℤ). RunPromised (Mixed.session family ours lent behind as-fresh) (lend g) (asRun left grid c)) (sym (cells-last numbers lent xs))
       (subst (λ (s : Session). RunPromised s (lend grid) (asRun left grid c)) (numbers-say ∙ sym (Mixed.session-means family ours lent behind as-fresh)) (as-run-promised p))
 
   -- and its result, with block, byte and count beside it, is what that call returned
-  pub run-told : (c : DeskRun) → RunPromisedC left grid c
+  pub run-told : (c : DeskRun) → DeskRunPromised left grid c
       → (c .result ≡ answerKind (asRun left grid c .returned .answer))
       × (c .answer ≡ handed (besideRun (asRun left grid c .returned .answer) (asRun left grid c .returned .count)) (c .lent))
   run-told c p = (p .tells, p .hands)

@@ -19,7 +19,7 @@ pub record DeskRun : Type 0 where
   pub answer : List ℕ
 
 -- what `dem_deliver_run` promises of a call, word for word: its four equations (paper, proof Contracts, reads them off the contract)
-pub record RunPromisedC (numbers grid : List ℤ) (c : DeskRun) : Type 0 where
+pub record DeskRunPromised (numbers grid : List ℤ) (c : DeskRun) : Type 0 where
   pub tells : c .result ≡ answerKind (ranTo numbers (c .number) (c .blocks) grid .answer)
   pub keeps : c .session ≡ numbersRun numbers (c .number) (c .blocks) grid
   pub fills : c .grid ≡ gridRun numbers (c .number) (c .blocks) grid
@@ -34,7 +34,7 @@ pub data DeskArrivals : List ℤ → List ℤ → List DeskArrival → Type 0 wh
   noneYet : {numbers grid : List ℤ} → DeskArrivals numbers grid []
   oneMore : {numbers grid : List ℤ} {c : DeskCall} {xs : List DeskArrival} → DeskPromised numbers grid c
       → DeskArrivals (c .session) (c .grid) xs → DeskArrivals numbers grid (deskBlock c ∷ xs)
-  runMore : {numbers grid : List ℤ} {c : DeskRun} {xs : List DeskArrival} → RunPromisedC numbers grid c
+  runMore : {numbers grid : List ℤ} {c : DeskRun} {xs : List DeskArrival} → DeskRunPromised numbers grid c
       → DeskArrivals (c .session) (c .grid) xs → DeskArrivals numbers grid (deskRun c ∷ xs)
 
 -- numbers and grid as last left

@@ -9,7 +9,7 @@ use Rattle.meaning.specs.Deliveries.{Promised}
 use Rattle.returns.specs.Writers.{Wrote, WroteSheet}
 use Rattle.arrivals.specs.Arrivals.{RunPromised}
 use Rattle.office.specs.DeskCalls.{OpenPromised, DeskPromised}
-use Rattle.office.specs.DeskArrivals.{RunPromisedC}
+use Rattle.office.specs.DeskArrivals.{DeskRunPromised}
 use Rattle.desk.proofs.«dem_open» as dem-open
 use Rattle.desk.proofs.«dem_open».Reads as dem-open·reads
 use Rattle.desk.proofs.dem_deliver as dem_deliver
@@ -71,7 +71,7 @@ dem-deliver-promises κs a z e told = record { tells = told .0; keeps = told .1 
 
 pub dem-deliver-run-promises : (κs : Lfts 4) (a : ArgsD dem_deliver_run.signature κs) (z : ResD dem_deliver_run.signature κs) (e : AtExit dem_deliver_run.ended κs)
     → dem_deliver_run·reads.Learnt κs a z e
-    → RunPromisedC (now (a .0)) (now (a .1 .1 .1 .0))
+    → DeskRunPromised (now (a .0)) (now (a .1 .1 .1 .0))
     record {
       number = a .1 .0;
       blocks = now (a .1 .1 .0);

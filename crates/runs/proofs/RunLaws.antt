@@ -15,7 +15,7 @@ use Rattle.session.specs.Session.{sound}
 use Rattle.delivery.specs.declared.Answer.{Answer}
 use Rattle.delivery.specs.declared.Answer.the-variants.{Taken, Held, Refused}
 use Rattle.delivery.specs.Deliver.{Lent, Room, roomOf, Verdict, wrong, verdictOf, answerOf, lentBy, deliverOf}
-use Rattle.runs.proofs.Passed.{isTaken, Shows, shown, unmoved}
+use Rattle.runs.proofs.Passed.{isTaken, shown, unmoved}
 use Rattle.runs.specs.Run.{Running, running, setOut, isRefused, counted, withBlock, goOn, runTo, runOf}
 
 counted-most : (a : Answer) (n : ℕ) → counted a n ≤ n + 1

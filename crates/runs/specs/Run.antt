@@ -52,7 +52,7 @@ unfoldable pub runTo : Session → ℕ → List ℕ → Lent → ℕ → Running
 runTo s number blocks lent zero = setOut s lent
 runTo s number blocks lent (suc n) = goOn (runTo s number blocks lent n) (number + n) (blockAt blocks n)
 
--- "1 with byte 0 if the slice's length is not a multiple of 1,024, before all else"
+-- a length that is no multiple of 1,024 is kind 1 at byte 0, "before all else"
 abbrev pub runOf : Session → ℕ → List ℕ → Lent → Running
 runOf s number blocks lent =
     cond (eqb (length blocks % 1024) 0) (runTo s number blocks lent (blocksIn blocks)) (running (Refused 1 number 0) s lent 0)
