@@ -11,13 +11,13 @@ use Rattle.laws.proofs.Tests.{by-test}
 use Rattle.laws.proofs.Lists.{append-nil, append-brackets}
 use Rattle.ground.specs.Blocks.{blockAt, blocksIn}
 use Rattle.session.specs.declared.Session.{Session}
-use Rattle.delivery.specs.Deliver.{Lent, lend}
+use Rattle.delivery.specs.Deliver.{Lent, lend, deliverOf, lentAfter}
 use Rattle.runs.specs.declared.Ran.{Ran}
-use Rattle.runs.specs.Run.{Running, isRefused, withBlock, runTo, runOf}
+use Rattle.runs.specs.Run.{Running, isRefused, withBlock, runTo, runOf, ranOf}
 use Rattle.runs.proofs.RunLaws.{run-none, run-more, ended, goes-on}
 use Rattle.runs.proofs.Ends.{answer, stays, steps, counted-one, all-counted}
 use Rattle.meaning.specs.Deliveries.{Delivery, Call, Calls, noCall, called, sessionAfter, gridAfter, takenText, bytesIf, deliveries}
-use Rattle.arrivals.specs.Arrivals.{RunCall, RunPromised, Arrival, Arrivals, noneYet, oneMore, runMore, sessionLast, gridLast, callOf, callsTo, runCalls, singles, sentTo, lookedAt}
+use Rattle.arrivals.specs.Arrivals.{RunCall, RunPromised, Arrival, single, several, Arrivals, noneYet, oneMore, runMore, sessionLast, gridLast, callOf, callsTo, runCalls, singles, sentTo, lookedAt}
 
 -- ---- calls joined
 
@@ -127,3 +127,25 @@ singles-behind (runMore {s} {lent} {c} {xs} p rest) =
         grid-joined (lent .grid) (runCalls s lent c) more ∙ ap (λ (g : List ℤ). gridAfter g more) (b .1 .1) ∙ k .1 .1,
       ),
     )
+
+-- ---- whatever is sent has such calls, so what is said of them is not said of nothing
+
+pub data Given : Type 0 where
+  block : Delivery → Given
+  run : ℕ → List ℕ → Given
+
+abbrev pub arrivalsFor : Session → Lent → List Given → List Arrival
+arrivalsFor s lent [] = []
+arrivalsFor s lent (block d ∷ gs) =
+    single
+    (record { sent = d; returned = deliverOf s (d .number) (d .bytes) lent; left = lentAfter s (d .number) (d .bytes) lent })
+    ∷ arrivalsFor (deliverOf s (d .number) (d .bytes) lent .session) (lentAfter s (d .number) (d .bytes) lent) gs
+arrivalsFor s lent (run number blocks ∷ gs) =
+    several
+    (record { number = number; blocks = blocks; returned = ranOf (runOf s number blocks lent); left = runOf s number blocks lent .lent })
+    ∷ arrivalsFor (runOf s number blocks lent .session) (runOf s number blocks lent .lent) gs
+
+pub arrivals-kept : (s : Session) (lent : Lent) (gs : List Given) → Arrivals s lent (arrivalsFor s lent gs)
+arrivals-kept s lent [] = noneYet
+arrivals-kept s lent (block d ∷ gs) = oneMore (record { answers = refl; fills = refl }) (arrivals-kept _ _ gs)
+arrivals-kept s lent (run number blocks ∷ gs) = runMore (record { answers = refl; fills = refl }) (arrivals-kept _ _ gs)

@@ -1,2 +1,3 @@
 pub mod AsSingles
 pub mod MixedDemand3
+pub mod Examples
