@@ -1,11 +1,11 @@
 -- What a run keeps as numbers is its session: where it took a block, the session was sound and said by numbers enough.
-use mathlib.Core.Bool.{true, false, cond}
+use mathlib.Core.Bool.{true, false}
 use mathlib.Core.List.{List, _++_}
 use mathlib.Core.Path.{_≡_, refl, _∙_, ap}
 use Prim.Native.Nat.{ℕ}
 use native.Mathlib.Omega.{arith}
 use borrow.Author.Tests.{le-leb, ltb-true}
-use lib.Dec.{leb, ltb}
+use lib.Dec.{ltb}
 use lib.IntN.{ℤ}
 use lib.ListN.{length, drop}
 use Rattle.laws.proofs.Tests.{by-test}
@@ -17,9 +17,10 @@ use Rattle.delivery.proofs.SoundOut.{Idle, sound-out, idle-out, unsound-kept}
 use Rattle.runs.proofs.RunLaws.{ran-keeps}
 use Rattle.ledger.specs.Numbers.{numbersOf, sessionNumbers}
 use Rattle.ledger.specs.Ledger.{sessionSaid}
-use Rattle.ledger.specs.Steps.{rowOf}
+use Rattle.ledger.specs.Row.{rowOf}
 use Rattle.ledger.proofs.Keeping.{row-is, sound-enough}
 use Rattle.courier.specs.Courier.{ranTo, numbersRun}
+use Rattle.courier.specs.Steps.{takenKept}
 
 module _ (numbers : List ℤ) (number : ℕ) (blocks : List ℕ) (grid : List ℤ) (i : Idle (sessionSaid numbers)) where
   abbrev s : Session
@@ -46,8 +47,7 @@ module _ (numbers : List ℤ) (number : ℕ) (blocks : List ℕ) (grid : List �
       (λ x m block l p. (sound-out x m block l (p .0), idle-out x m block l (p .0) (p .1))) (t, i) in
       row-is after (k .0) (k .1)
 
-  pub carried : cond (ltb (s .taken) (after .taken)) (cond (leb sessionNumbers (length numbers)) (rowOf after ++ drop sessionNumbers numbers) numbers) numbers
-      ≡ numbersRun numbers number blocks grid
+  pub carried : takenKept (s .taken) after numbers ≡ numbersRun numbers number blocks grid
   carried =
       by-test (ltb (s .taken) (after .taken))
       (λ e.

@@ -1,1 +1,2 @@
 pub mod Courier
+pub mod Steps

@@ -3,19 +3,14 @@ use delivery::Answer;
 use runs::Ran;
 use session::Session;
 ghost use mathlib.Core.Path.{_≡_};
-ghost use mathlib.Core.Bool.{cond};
-ghost use mathlib.Core.List.{_++_};
-ghost use lib.Dec.{ltb, leb};
-ghost use lib.ListN.{length, drop};
 ghost use Rattle.delivery.specs.Deliver.{answerKind};
 ghost use Rattle.slip.specs.Slip.{handed};
-ghost use Rattle.ledger.specs.Numbers.{sessionNumbers};
-ghost use Rattle.ledger.specs.Steps.{rowOf};
+ghost use Rattle.courier.specs.Steps.{takenKept};
 ghost use Rattle.courier.specs.Courier.{ranTo, numbersRun, gridRun, besideRun};
 
 // The numbers of the session after a run that took a block; one that took none leaves them.
 fn keep_taken(before: u64, after: Session, numbers: &mut [i64])
-    ensures { λ _. ⌜ now (numbers .exit) ≡ cond (ltb before (after .taken)) (cond (leb sessionNumbers (length (now (numbers .entry)))) (rowOf after ++ drop sessionNumbers (now (numbers .entry))) (now (numbers .entry))) (now (numbers .entry)) ⌝ }
+    ensures { λ _. ⌜ now (numbers .exit) ≡ takenKept before after (now (numbers .entry)) ⌝ }
 {
     if after.taken <= before {
         return;

@@ -24,7 +24,8 @@ use Rattle.delivery.specs.Deliver.{Lent, deliverOf}
 use Rattle.delivery.proofs.SoundOut.{Idle, sound-out, idle-out, unsound-kept}
 use Rattle.ledger.specs.Numbers.{numbersOf, sessionNumbers}
 use Rattle.ledger.specs.Ledger.{noneNegative, run, isSession, sessionKept, sessionSaid, noSession}
-use Rattle.ledger.specs.Steps.{withSign, headerRow, countRow, profileRow, addedRow, rowOf, Keepable}
+use Rattle.ledger.specs.Row.{withSign, headerRow, countRow, profileRow, addedRow, rowOf}
+use Rattle.ledger.specs.Steps.{Keepable}
 
 -- four rows, one behind the other, are one
 pub rows-put : (s : Session) (numbers : List ℤ) → sessionNumbers ≤ length numbers

@@ -1,3 +1,4 @@
 pub mod Numbers
 pub mod Ledger
+pub mod Row
 pub mod Steps

@@ -12,12 +12,8 @@ ghost use Rattle.delivery.proofs.SoundOut.{Idle};
 ghost use Rattle.lines.specs.Lines.{Given};
 ghost use Rattle.slip.specs.Slip.{handed};
 ghost use Rattle.ledger.specs.Ledger.{sessionSaid, soundSaid, completeSaid, openKind, openedWith, deliveredTo, gridLeft, numbersLeft, numbersAfterAnswer, reportSaid};
-ghost use Rattle.ledger.specs.Steps.{Keepable, rowOf};
-ghost use Rattle.ledger.specs.Numbers.{sessionNumbers};
-ghost use mathlib.Core.Bool.{cond};
-ghost use mathlib.Core.List.{_++_};
-ghost use lib.Dec.{leb};
-ghost use lib.ListN.{length, drop};
+ghost use Rattle.ledger.specs.Row.{rowKept};
+ghost use Rattle.ledger.specs.Steps.{Keepable};
 
 // The numbers of a session; include/desk.h names them DEM_SESSION.
 pub const NUMBERS: usize = 39;
@@ -46,7 +42,7 @@ pub fn open(family: u32, numbers: &mut [i64]) -> u32
 
 // The numbers of a session at the front of a slice; nothing changed where there are too few.
 pub fn keep(s: Session, numbers: &mut [i64])
-    ensures { λ _. ⌜ now (numbers .exit) ≡ cond (leb sessionNumbers (length (now (numbers .entry)))) (rowOf s ++ drop sessionNumbers (now (numbers .entry))) (now (numbers .entry)) ⌝ }
+    ensures { λ _. ⌜ now (numbers .exit) ≡ rowKept s (now (numbers .entry)) ⌝ }
 {
     if numbers.len() < NUMBERS {
         return;

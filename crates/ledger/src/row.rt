@@ -8,7 +8,7 @@ ghost use Prim.Native.Nat.{_+_, _≤_};
 ghost use lib.ListN.{length, drop};
 ghost use lib.Seq.{sets};
 ghost use Rattle.ledger.specs.Numbers.{sessionNumbers};
-ghost use Rattle.ledger.specs.Steps.{withSign, headerRow, countRow, profileRow, addedRow, rowOf};
+ghost use Rattle.ledger.specs.Row.{withSign, headerRow, countRow, profileRow, addedRow, rowOf};
 
 // The greatest number of 64 bits with a sign.
 const GREATEST: u64 = 9223372036854775807;

@@ -1,29 +1,17 @@
 -- The session that the numbers say, a run to it, what is kept and what is told: Carried has that what is kept is the session.
-use mathlib.Core.Bool.{cond}
-use mathlib.Core.List.{List, _++_}
 use mathlib.Core.Path.{_≡_, _∙_, ap, subst}
-use Prim.Native.Nat.{ℕ}
-use lib.Dec.{ltb, leb}
-use lib.IntN.{ℤ}
-use lib.ListN.{length, drop}
 use Rattle.session.specs.declared.Session.{Session}
 use Rattle.delivery.specs.Deliver.{lend, answerKind}
 use Rattle.delivery.proofs.SoundOut.{Idle}
 use Rattle.runs.specs.declared.Ran.{Ran}
 use Rattle.runs.specs.Run.{Running, runOf, ranOf}
 use Rattle.slip.specs.Slip.{handed}
-use Rattle.ledger.specs.Numbers.{sessionNumbers}
-use Rattle.ledger.specs.Steps.{rowOf}
 use Rattle.courier.specs.Courier.{ranTo, besideRun}
+use Rattle.courier.specs.Steps.{takenKept}
 use Rattle.courier.proofs.Carried.{carried}
 use borrow.Author.Needs.{needs}
 use Rattle.courier.proofs.deliver_run.Statement.{statement}
 use Rattle.courier.proofs.deliver_run.Tie as tie
-
--- what `keep_taken` leaves
-abbrev put : List ℤ → ℕ → Session → List ℤ
-put numbers before after =
-    cond (ltb before (after .taken)) (cond (leb sessionNumbers (length numbers)) (rowOf after ++ drop sessionNumbers numbers) numbers) numbers
 
 session-of-requires : tie.Need-session-of-requires
 session-of-requires c κs = search needs
@@ -60,7 +48,7 @@ returns c =
       t .tell .ensures .0 ∙ ap (λ (x : Ran). answerKind (x .answer)) r,
       (
         k .keep-taken .ensures
-            ∙ (λ j. put (a .numbers .now) (e j .taken) (r j .session))
+            ∙ (λ j. takenKept (e j .taken) (r j .session) (a .numbers .now))
             ∙ carried (a .numbers .now) (a .number) (a .blocks .now) (a .grid .now) i,
         (
           d .deliver-run .ensures .1 ∙ ap (λ (x : Session). ran x .lent .grid) e,

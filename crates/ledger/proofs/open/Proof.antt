@@ -9,7 +9,7 @@ use lib.IntN.{ℤ}
 use lib.ListN.{length, drop}
 use Rattle.session.specs.declared.Session.{Session}
 use Rattle.ledger.specs.Numbers.{sessionNumbers}
-use Rattle.ledger.specs.Steps.{rowOf}
+use Rattle.ledger.specs.Row.{rowOf}
 use Rattle.ledger.proofs.Keeping.{opened-row}
 use borrow.Author.Needs.{needs}
 use Rattle.ledger.proofs.open.Statement.{statement}

@@ -3,7 +3,7 @@ use mathlib.Core.Path.{_∙_, ap}
 use mathlib.Core.List.{List}
 use lib.IntN.{ℤ}
 use lib.Seq.{sets}
-use Rattle.ledger.specs.Steps.{countRow, profileRow, addedRow}
+use Rattle.ledger.specs.Row.{countRow, profileRow, addedRow}
 use Rattle.ledger.proofs.Keeping.{rows-put}
 use borrow.Author.Needs.{needs}
 use Rattle.ledger.proofs.row.keep.Statement.{statement}
