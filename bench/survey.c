@@ -107,7 +107,8 @@ static int read_real(const unsigned char *b, int n, int64_t *out)
         *out = 0;
         return 0;
     }
-    e -= after;
+    /* 02, request 4: where no point stands, one before the last digits, by the length of the field */
+    e -= point ? after : n == 12 ? 6 : n == 7 ? 4 : 15;
     while (m % 10 == 0) {
         m /= 10;
         e++;

@@ -1,5 +1,5 @@
 /* Field readings from C: what the desk program does with a number field.
- *   fields          checks the paper's examples, whose answers are written here from document 01, and prints each
+ *   fields          checks the papers' examples, whose answers are written here from documents 01 and 02, and prints each
  *   fields -        reads fields from standard input, one to a line, and prints both readings of each
  * Ends with status 1 if an example is not answered as the paper says. */
 #include <inttypes.h>
@@ -15,7 +15,7 @@ struct example {
     int64_t value; /* of a real, in billionths */
 };
 
-/* document 01, "Examples on the edge" */
+/* document 01, "Examples on the edge", and 02 */
 static const struct example examples[] = {
     {'r', "0.428400000000000D+06", 0, INT64_C(428400000000000)},
     {'r', "1.0D-09", 0, 1},
@@ -25,6 +25,16 @@ static const struct example examples[] = {
     {'r', "                        ", 6, 0},
     {'r', "123456789.1234567", 8, 0},
     {'r', "999999999.9", 0, INT64_C(999999999900000000)},
+    /* document 02, request 4: no point, by the length of the field */
+    {'r', "  300000E+01", 0, INT64_C(3000000000)},
+    {'r', "300000E+01", 0, 3},
+    {'r', "              300000E+01", 0, 3},
+    {'r', " 300000", 0, INT64_C(30000000000)},
+    {'r', "          30", 0, 30000},
+    {'r', "                     600", 8, 0},
+    {'r', "                    1D24", 7, 0},
+    {'r', "5", 8, 0},
+    {'r', "5.", 0, INT64_C(5000000000)},
     {'i', "    -7", 0, -7},
     {'i', "32768 ", 6, 0},
     {'i', "-32768", 0, -32768},
@@ -56,7 +66,7 @@ static int check_examples(void)
         printf("[%s]\n", e->text);
         print_reading(e->reading == 'i' ? "integer" : "real", kind, value, e->reading == 'r');
         if (kind != e->kind || value != e->value) {
-            printf("  WRONG: document 01 says kind %" PRIu32 ", value %" PRId64 "\n", e->kind, e->value);
+            printf("  WRONG: the papers say kind %" PRIu32 ", value %" PRId64 "\n", e->kind, e->value);
             wrong = 1;
         }
     }

@@ -26,7 +26,9 @@ uint32_t dem_integer_kind(const uint8_t *field, size_t length);
 int64_t dem_integer_value(const uint8_t *field, size_t length);
 
 /* A real field of 1 to 24 bytes. Kind: 0 read, 1 wrong length, 6 wrong form, 7 magnitude 1,000,000,000 or more,
- * 8 finer than a billionth or more than 15 digits. Value: a whole number of billionths, 0 where refused. */
+ * 8 finer than a billionth or more than 15 digits. Value: a whole number of billionths, 0 where refused.
+ * A field without a point has one before its last digits, by its whole length: 6 digits in 12 bytes, 4 in 7 bytes, 15 in any
+ * other. So hand over the field as it stands in its record, blanks and all: with its blanks cut off it may be another number. */
 uint32_t dem_real_kind(const uint8_t *field, size_t length);
 int64_t dem_real_value(const uint8_t *field, size_t length);
 

@@ -40,6 +40,7 @@ for sheet in "$here"/*.dem "$here"/*.DEM; do
     taken=$answer
     grep -q '^sheet' "$answer" || taken=$survey
     grep -qs '^sheet' "$taken" || continue
+    [ "$name" != NOPOINT.DEM ] || continue # made here for a rule of FORTRAN's that GDAL does not have: it would read whole numbers
     gdal_places "$sheet" >"$work/places"
     if [ "$(awk "$sums" "$work/places")" != "$(awk "$stated" "$taken")" ]; then
         say "$name: rows, columns, filled cells or range differ"

@@ -11,10 +11,11 @@ use crate::dice::Dice;
 use crate::family::{CANADIAN, CANADIAN_SIDE};
 use crate::kept::{self, name_of, place, Kept, DONE, HELD, NUMBERS};
 use crate::meaning::{self, sum_of_cells, Block};
+use crate::pointless;
 use crate::runs;
 use crate::runs::line::{marked, Brought, Line};
 use crate::runs::shown::{Look, Seen};
-use crate::sheets::aimed::damaged_profile_block;
+use crate::sheets::aimed::{damaged_profile_block, put_without_point, POINTLESS_TURNS};
 use crate::sheets::canadian::{self, CELLS};
 use crate::sheets::{put, Plan, Sent};
 
@@ -25,6 +26,7 @@ const HELD_AT_FIRST: i32 = 7;
 const AROUND: usize = 3;
 
 pub const CRAFTED: usize = 3_000;
+const WITHOUT_POINT: usize = 8 * POINTLESS_TURNS;
 /// Sheets that break off, and sheets that are sent to their end.
 pub const BROKEN_OFF: usize = 220;
 pub const WHOLE: usize = 2;
@@ -45,6 +47,8 @@ pub struct North<'a> {
     pub runs: Seen,
     /// How sheets ended.
     pub ends: Counts,
+    /// Reals without a point in single blocks, and what came of them.
+    pub pointless: Counts,
 }
 
 impl<'a> North<'a> {
@@ -58,6 +62,7 @@ impl<'a> North<'a> {
             answers: Counts::default(),
             runs: Seen::default(),
             ends: Counts::default(),
+            pointless: Counts::default(),
         }
     }
 
@@ -79,6 +84,21 @@ impl<'a> North<'a> {
             if turn % 500 == 0 {
                 self.look_at_all();
             }
+        }
+        self.look_at_all();
+    }
+
+    /// First blocks of profiles, each of their reals without a point and at fault in each way.
+    pub fn send_without_points(&mut self, dice: &mut Dice) {
+        for turn in 0..WITHOUT_POINT {
+            let mut kept = families::canadian(dice);
+            while kept.awaits() != Some(Record::ProfileStart) {
+                kept = families::canadian(dice);
+            }
+            let mut block = blocks::awaited(dice, &mut kept).bytes;
+            put_without_point(turn, &mut block);
+            self.numbers = kept.numbers().to_vec();
+            self.send(dice, kept.taken as u32, &block, CELLS);
         }
         self.look_at_all();
     }
@@ -258,6 +278,9 @@ impl<'a> North<'a> {
         let awaited = Kept::of(&self.numbers).awaits();
         let (told, after) = placed.leaves(kept::deliver, &mut self.grid);
         self.answers.see(answer_name(awaited, told.result));
+        for name in pointless::shown_by_delivery(&self.numbers, number, block, told) {
+            self.pointless.see(name);
+        }
         (self.ask)(placed.call(told, None, &after, &self.grid));
         if told.result == DONE {
             self.text.push(block.to_vec());

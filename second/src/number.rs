@@ -1,6 +1,7 @@
 //! The two field readings of document 01, "Number fields", done as with pencil and
 //! paper: a real is two rows of digits, left and right of the point, and an exponent
-//! moves the point one place at a time. No value is ever rounded or estimated.
+//! moves the point one place at a time. Where no point is written, it is put in first
+//! (02, request 4). No value is ever rounded or estimated.
 
 use crate::kind::{OUT_OF_RANGE, TOO_FINE, WRONG_FORM, WRONG_LENGTH};
 use std::collections::VecDeque;
@@ -70,18 +71,28 @@ fn read_real(field: &[u8]) -> Result<i64, u32> {
     Ok(decimal.billionths())
 }
 
+/// How many of its digits stand behind the point that a real without one is given: the second
+/// number of the descriptor that a field of this many bytes has, E12.6, F7.4 or D24.15; one read
+/// alone may have other lengths, and they go with the last. What the field holds has no say in
+/// it, and all its bytes count, blanks too (READINGS-02, 4.1).
+pub fn decimals_of(length: usize) -> usize {
+    match length {
+        12 => 6,
+        7 => 4,
+        _ => 15,
+    }
+}
+
 /// The form of a real: the decimal before its exponent, and the exponent; None if wrong.
 fn split_real(field: &[u8]) -> Option<(Decimal, i32)> {
     let mut text = Text { rest: field };
     text.skip_blanks();
     let negative = text.take_sign();
-    let whole = text.take_digits();
-    let fraction = if text.take_one_of(b".") {
-        text.take_digits()
-    } else {
-        &[]
-    };
-    if whole.is_empty() && fraction.is_empty() {
+    let before = text.take_digits();
+    let has_point = text.take_one_of(b".");
+    let behind = if has_point { text.take_digits() } else { &[] };
+    // Form knows nothing of a point that is put in (READINGS-02, 4.3).
+    if before.is_empty() && behind.is_empty() {
         return None;
     }
     let exponent = take_exponent(&mut text)?;
@@ -89,7 +100,11 @@ fn split_real(field: &[u8]) -> Option<(Decimal, i32)> {
     if !text.at_end() {
         return None;
     }
-    Some((Decimal::new(negative, whole, fraction), exponent))
+    let decimal = match has_point {
+        true => Decimal::new(negative, before, behind),
+        false => Decimal::with_point_put_in(negative, before, decimals_of(field.len())),
+    };
+    Some((decimal, exponent))
 }
 
 /// An exponent that is not there is 0; one of wrong form is None (READINGS 3).
@@ -157,6 +172,14 @@ impl Decimal {
             whole: whole.iter().copied().collect(),
             fraction: fraction.iter().copied().collect(),
         }
+    }
+
+    /// Zeros fill up too few digits; then the point goes before the last `decimals` of them.
+    fn with_point_put_in(negative: bool, digits: &[u8], decimals: usize) -> Decimal {
+        let missing = decimals.saturating_sub(digits.len());
+        let filled = [&vec![b'0'; missing], digits].concat();
+        let (whole, fraction) = filled.split_at(filled.len() - decimals);
+        Decimal::new(negative, whole, fraction)
     }
 
     /// Times ten to the power of `places`.

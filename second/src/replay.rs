@@ -1,9 +1,12 @@
 //! The interface of `replay` (docs/MANUAL.md, "Looking at a recorded line"): scripts of deliveries,
 //! and the lines this program's own loader answers to one.
 
-use crate::block::{Record, USUAL_CELLS};
+use crate::block::{Record, BLOCK_LENGTH, USUAL_CELLS};
+use crate::family::USGS;
 use crate::load::{deliver, Answer, Session};
 use crate::meaning::Figures;
+use crate::pointless;
+use std::collections::BTreeSet;
 use std::fmt::Write;
 
 pub const MOST_CELLS: u32 = USUAL_CELLS as u32;
@@ -64,6 +67,8 @@ pub struct Outcome {
     pub events: Vec<Event>,
     /// What the session line says; None where the script is bad.
     pub figures: Option<Figures>,
+    /// Reals without a point, and what came of them.
+    pub pointless: BTreeSet<String>,
 }
 
 impl Outcome {
@@ -94,6 +99,9 @@ fn run_deliveries(mut rest: &[u8], outcome: &mut Outcome) -> Option<Figures> {
         let awaited = session.awaits();
         let answer = deliver(&mut session, number, bytes, &mut grid[..lent as usize]);
         outcome.events.push(Event { awaited, answer });
+        outcome
+            .pointless
+            .extend(shown_without_point(awaited, answer, number, bytes));
         outcome.output.push_str(&line_of(answer));
     }
     let figures = session.figures();
@@ -101,6 +109,23 @@ fn run_deliveries(mut rest: &[u8], outcome: &mut Outcome) -> Option<Figures> {
     assert_eq!(session.sum_in(&grid), figures.sum);
     write_end(&mut outcome.output, session.taken(), &figures, &grid);
     Some(figures)
+}
+
+fn shown_without_point(
+    awaited: Option<Record>,
+    answer: Answer,
+    number: u32,
+    bytes: &[u8],
+) -> Vec<String> {
+    let fault = match answer {
+        Answer::Taken => (0, 0),
+        Answer::Refused(refusal) if refusal.block == number => (refusal.kind, refusal.byte),
+        _ => return Vec::new(),
+    };
+    match awaited {
+        Some(record) if bytes.len() == BLOCK_LENGTH => pointless::shown(USGS, record, bytes, fault),
+        _ => Vec::new(),
+    }
 }
 
 fn take_bytes<'a>(rest: &mut &'a [u8], count: usize) -> Option<&'a [u8]> {

@@ -1,7 +1,7 @@
 //! What the desk's writer is asked for: every set of faults at once, so that the order of
 //! the kinds shows, and sheets of every shape.
 
-use crate::block::{Record, BLOCK_LENGTH};
+use crate::block::{stretch, Record, BLOCK_LENGTH};
 use crate::desk::{Call, Writing};
 use crate::dice::Dice;
 use crate::kind::WRONG_LENGTH;
@@ -41,24 +41,30 @@ pub struct Asked {
     pub call: Call,
     pub told: (u32, u32),
     pub faults: Vec<usize>,
+    /// Block 0 came out, and its template has no point in the x spacing (02, request 4).
+    pub gives_a_point: bool,
 }
 
 impl Asked {
-    fn block((call, told): (Call, (u32, u32)), faults: Vec<usize>) -> Asked {
+    fn block(writing: &Writing, number: u32, lent: &[u8], faults: Vec<usize>) -> Asked {
+        let (call, told) = writing.block(number, lent);
         Asked {
             whole: false,
             call,
             told,
             faults,
+            gives_a_point: told.0 == 0 && number == 0 && lacks_a_point(writing),
         }
     }
 
-    fn sheet((call, told): (Call, (u32, u32)), faults: Vec<usize>) -> Asked {
+    fn sheet(writing: &Writing, length: usize, faults: Vec<usize>) -> Asked {
+        let (call, told) = writing.sheet(length);
         Asked {
             whole: true,
             call,
             told,
             faults,
+            gives_a_point: told.0 == 0 && lacks_a_point(writing),
         }
     }
 
@@ -69,6 +75,10 @@ impl Asked {
         };
         others.iter().map(|&other| pair(first, other)).collect()
     }
+}
+
+fn lacks_a_point(writing: &Writing) -> bool {
+    !stretch(&writing.template, 817, 828).contains(&b'.')
 }
 
 fn pair(first: usize, other: usize) -> String {
@@ -124,7 +134,7 @@ pub fn blocks(dice: &mut Dice, visit: &mut Visit) {
             false => BLOCK_LENGTH,
         };
         let lent: Vec<u8> = (0..length).map(|_| dice.byte()).collect();
-        visit(Asked::block(writing.block(number, &lent), faults));
+        visit(Asked::block(&writing, number, &lent, faults));
     }
 }
 
@@ -143,7 +153,7 @@ pub fn sheets(dice: &mut Dice, visit: &mut Visit) {
             ]),
             false => whole,
         };
-        visit(Asked::sheet(writing.sheet(length), faults));
+        visit(Asked::sheet(&writing, length, faults));
     }
 }
 
@@ -215,11 +225,10 @@ pub fn of_every_shape(dice: &mut Dice, visit: &mut Visit) {
         let any = dice.size(0, count - 1);
         let lent = vec![b'#'; BLOCK_LENGTH];
         for number in [0, any, count - 1, count] {
-            let block = writing.block(number as u32, &lent);
-            visit(Asked::block(block, Vec::new()));
+            visit(Asked::block(&writing, number as u32, &lent, Vec::new()));
         }
         for length in [count, count, count + 1].map(|count| count * BLOCK_LENGTH) {
-            visit(Asked::sheet(writing.sheet(length), Vec::new()));
+            visit(Asked::sheet(&writing, length, Vec::new()));
         }
     }
 }

@@ -1,8 +1,9 @@
 //! The readings of number.rs on the edge examples and on values spelled out and read back.
 
 use second::dice::Dice;
-use second::examples::{Example, INTEGERS, REALS};
+use second::examples::{Example, INTEGERS, POINTLESS_REALS, REALS};
 use second::number::{integer, real};
+use second::texts::FAMILIES;
 
 fn check(examples: &[Example], reading: fn(&[u8]) -> (u32, i64)) {
     for &(text, kind, value) in examples {
@@ -23,6 +24,7 @@ fn integer_examples() {
 #[test]
 fn real_examples() {
     check(REALS, real);
+    check(POINTLESS_REALS, real);
 }
 
 #[test]
@@ -82,13 +84,162 @@ fn one_digit_under_every_exponent() {
                 -9..=8 => (0, 7 * 10_i64.pow((exponent + 9) as u32)),
                 _ => (8, 0),
             };
-            assert_eq!(real(format!("7{letter}{exponent}").as_bytes()), expected);
+            assert_eq!(real(format!("7.{letter}{exponent}").as_bytes()), expected);
             assert_eq!(
                 real(format!("7.0{letter}{exponent:+03}").as_bytes()),
                 expected
             );
             assert_eq!(real(format!("-0{letter}{exponent:+}").as_bytes()), (0, 0));
         }
+    }
+}
+
+/// Kind and value of `digits` × ten to the `power`, by arithmetic on the number instead of on its
+/// digits as they are written.
+fn judged(negative: bool, digits: &[u8], power: i32) -> (u32, i64) {
+    let text = std::str::from_utf8(digits).expect("digits");
+    let mut number: u128 = text.parse().expect("24 digits at most");
+    if number == 0 {
+        return (0, 0);
+    }
+    let mut places = power + 9;
+    let mut size = 0;
+    while number.is_multiple_of(10) {
+        number /= 10;
+        places += 1;
+    }
+    while number / 10_u128.pow(size) > 0 {
+        size += 1;
+    }
+    // Billionths have `size` + `places` digits.
+    if size as i32 + places > 18 {
+        return (7, 0);
+    }
+    if places < 0 || size > 15 {
+        return (8, 0);
+    }
+    let value = number as i64 * 10_i64.pow(places as u32);
+    (0, if negative { -value } else { value })
+}
+
+/// Sign, digits and exponent of a real without a point; None for any other text.
+fn parts_without_point(field: &[u8]) -> Option<(bool, Vec<u8>, i32)> {
+    if !(1..=24).contains(&field.len()) || ![0, 7, 8].contains(&real(field).0) {
+        return None;
+    }
+    let text = std::str::from_utf8(field).ok()?.trim_matches(' ');
+    if text.contains('.') {
+        return None;
+    }
+    let (mantissa, exponent) = text.split_once(['D', 'E']).unwrap_or((text, "0"));
+    let digits = mantissa.trim_start_matches(['+', '-']);
+    Some((
+        mantissa.starts_with('-'),
+        digits.as_bytes().to_vec(),
+        exponent.parse().expect("of right form"),
+    ))
+}
+
+/// Every length, every count of digits that fits, every exponent, at both ends of the field.
+#[test]
+fn reals_without_a_point_of_every_length() {
+    let mut dice = Dice::new(9);
+    let mut texts = 0;
+    for length in 1..=24_usize {
+        let decimals = [15, 4, 6][usize::from(length == 7) + 2 * usize::from(length == 12)];
+        for exponent in -100_i32..=99 {
+            // -100 stands for none.
+            let (tail, exponent) = match exponent {
+                -100 => (String::new(), 0),
+                _ => (format!("{}{exponent}", dice.pick(&["D", "E"])), exponent),
+            };
+            for count in 1..=length.saturating_sub(tail.len()) {
+                let mut digits = dice.digits(count);
+                let zeros = dice.size(0, count - 1);
+                digits[count - zeros..].fill(b'0');
+                let number = [&digits[..], tail.as_bytes()].concat();
+                let room = length - number.len();
+                let left = *dice.pick(&[0, room]);
+                let field = [vec![b' '; left], number, vec![b' '; room - left]].concat();
+                let expected = judged(false, &digits, exponent - decimals);
+                assert_eq!(real(&field), expected, "\"{}\"", field.escape_ascii());
+                texts += 1;
+            }
+        }
+    }
+    assert!(texts > 40_000);
+}
+
+/// A way to get the number of decimals, or the exponent, wrong: how far the point is moved, from
+/// the field, its digits and its exponent.
+type Slip = (&'static str, fn(&[u8], &[u8], i32) -> i32);
+
+fn decimals(length: usize) -> i32 {
+    match length {
+        12 => 6,
+        7 => 4,
+        _ => 15,
+    }
+}
+
+const SLIPS: [Slip; 10] = [
+    ("none put in, as before request 4", |_, _, e| e),
+    ("15 in 12 bytes", |f, _, e| {
+        e - if f.len() == 7 { 4 } else { 15 }
+    }),
+    ("15 in 7 bytes", |f, _, e| {
+        e - if f.len() == 12 { 6 } else { 15 }
+    }),
+    ("6 in all but 24 and 7 bytes", |f, _, e| {
+        e - match f.len() {
+            24 => 15,
+            7 => 4,
+            _ => 6,
+        }
+    }),
+    ("by the digits, not the field", |_, d, e| {
+        e - decimals(d.len())
+    }),
+    ("by the field without its blanks", |f, _, e| {
+        e - decimals(f.trim_ascii().len())
+    }),
+    ("only where no exponent stands", |f, _, e| {
+        match f.iter().any(|byte| b"DE".contains(byte)) {
+            true => e,
+            false => -decimals(f.len()),
+        }
+    }),
+    ("not before an exponent below zero", |f, _, e| match e < 0 {
+        true => e,
+        false => e - decimals(f.len()),
+    }),
+    ("before all digits there are", |_, d, e| e - d.len() as i32),
+    ("only where the digits are that many", |f, d, e| {
+        e - decimals(f.len()).min(d.len() as i32)
+    }),
+];
+
+/// The texts compared tell each slip from the rule, in every sort of field that it is about.
+#[test]
+fn each_slip_with_a_point_put_in_shows() {
+    let mut seen = [0_u32; SLIPS.len()];
+    let mut dice = Dice::new(10);
+    for family in FAMILIES {
+        (family.make)(&mut dice, &mut |text| {
+            let Some((negative, digits, exponent)) = parts_without_point(text) else {
+                return;
+            };
+            let found = real(text);
+            let right = exponent - decimals(text.len());
+            assert_eq!(found, judged(negative, &digits, right), "{text:?}");
+            for (times, (_, slip)) in seen.iter_mut().zip(SLIPS) {
+                let power = slip(text, &digits, exponent);
+                *times += u32::from(judged(negative, &digits, power) != found);
+            }
+        });
+    }
+    for (times, (name, _)) in seen.iter().zip(SLIPS) {
+        assert!(*times > 1_000, "{name}: {times}");
     }
 }
 
@@ -125,7 +276,16 @@ fn values_spelled_in_several_ways_read_back() {
             magnitude % 1_000_000_000
         );
         assert_eq!(real(plain.as_bytes()), expected(value), "{plain}");
-        assert_eq!(real(format!("{value}D-9").as_bytes()), expected(value));
+        // Without a point the exponent makes up for the decimals of each width.
+        let wide = format!("{value}D6");
+        assert_eq!(real(format!("{wide:>24}").as_bytes()), expected(value));
+        for (width, tail) in [(12, "D-3"), (7, "E-5")] {
+            let text = format!("{value}{tail}");
+            if text.len() <= width {
+                let field = format!("{text:width$}");
+                assert_eq!(real(field.as_bytes()), expected(value), "{field}");
+            }
+        }
         assert_eq!(
             real(format!("{sign}.{magnitude:018}E9").as_bytes()),
             expected(value)

@@ -109,13 +109,14 @@ fn fields_of_a_profile() {
         (13, "      ", 6),
         (19, "     0", 9),
         (25, "6OO.0", 6),
-        (25, "1D+9 ", 7),
-        (49, "1D-10", 8),
+        (25, "1.D9 ", 7),
+        (49, "1.D-9", 10),
+        (49, ".1D-9", 8),
         (73, "10000.01", 7),
         (73, "0.001", 7),
-        (73, "1D-10", 8),
+        (73, ".1D-9", 8),
         (97, "1.0d1", 6),
-        (121, "1D+9", 7),
+        (121, "1.D9", 7),
         (145, "-32768", 7),
         (151, " 32768", 7),
         (157, "    1 ", 6),
@@ -127,6 +128,70 @@ fn fields_of_a_profile() {
     assert_eq!(first_profile_with(&[(1024, "X")]), refused(5, 1, 163));
     assert_eq!(first_profile_with(&[(13, "     4")]), refused(6, 1, 163));
     assert_eq!(first_profile_with(&[(13, "     2")]), refused(5, 1, 157));
+}
+
+/// 02, request 4: fifteen decimals in each of the five reals, which stand left in their fields
+/// here; x is 600, y 900, the datum 0, the extremes 10 and 12.
+#[test]
+fn a_profile_without_points() {
+    let with = |first: usize, text: &str| {
+        let field = format!("{text:24}");
+        first_profile_with(&[(first, &field)])
+    };
+    for (first, text) in [
+        (25, "6D17"),
+        (25, "000000600000000000000000"),
+        (25, "600000000000000000"),
+        (49, "+900000000000000D+03"),
+        (49, "            900000E+12"),
+        (73, "-0D-99"),
+        (73, "0"),
+        (97, "1D16"),
+        (97, "     10000000000000000"),
+        (121, "12000000000000000"),
+        (121, "12E15"),
+    ] {
+        assert_eq!(with(first, text), Answer::Taken, "{text} at {first}");
+    }
+    for (first, text, kind) in [
+        (25, "600", 8),
+        (25, "1D24", 7),
+        (25, "1D+9", 10),
+        (25, "63D16", 10),
+        (49, "900", 8),
+        (49, "-1D24", 7),
+        (49, "93D16", 10),
+        (73, "1", 8),
+        (73, "1D12", 7),
+        (73, "10000000000000000001", 8),
+        (73, "10000010000000000000", 7),
+        (73, "1D24", 7),
+        (97, "10", 8),
+        (97, "1D15", 11),
+        (97, "1D24", 7),
+        (121, "12", 8),
+        (121, "12D16", 11),
+        (121, "1D24", 7),
+    ] {
+        let answer = with(first, text);
+        assert_eq!(answer, refused(kind, 1, first as u32), "{text} at {first}");
+    }
+    // 10,000 up, a hundredth up, 10,000 down, 2.5 up.
+    for (datum, least, greatest) in [
+        ("10000000000000000000", "1001D16", "10012D15"),
+        ("1D13", "1001D13", "12010000000000000"),
+        ("-1D19", "-9990D15", "-9988000000000000000"),
+        ("25D14", "125D14", "145D14"),
+    ] {
+        let stated = [datum, least, greatest]
+            .map(|text| format!("{text:24}"))
+            .concat();
+        assert_eq!(
+            first_profile_with(&[(73, &stated)]),
+            Answer::Taken,
+            "{datum}"
+        );
+    }
 }
 
 #[test]
@@ -157,7 +222,7 @@ fn places_of_a_profile() {
 #[test]
 fn a_second_profile_stands_right_beside_the_first() {
     let mut header = paper_header();
-    put(&mut header, 643, &format!("{:24}", 690));
+    put(&mut header, 643, &format!("{:24}", "690."));
     let mut blocks = paper_blocks();
     blocks[0] = header;
     let answer_at = |first_x: &str, second_x: &str| {
@@ -170,10 +235,11 @@ fn a_second_profile_stands_right_beside_the_first() {
         (first, deliver(&mut session, 2, &blocks[2], &mut grid))
     };
     let taken = Answer::Taken;
-    assert_eq!(answer_at("660", "690"), (taken, taken));
-    assert_eq!(answer_at("690", "690").0, refused(10, 1, 25));
-    assert_eq!(answer_at("600", "660"), (taken, refused(10, 2, 25)));
-    assert_eq!(answer_at("630", "630"), (taken, refused(10, 2, 25)));
+    assert_eq!(answer_at("660.", "690."), (taken, taken));
+    assert_eq!(answer_at("66D16", "690000000000000D+03"), (taken, taken));
+    assert_eq!(answer_at("690.", "690.").0, refused(10, 1, 25));
+    assert_eq!(answer_at("600.", "660."), (taken, refused(10, 2, 25)));
+    assert_eq!(answer_at("630.", "63D16"), (taken, refused(10, 2, 25)));
 }
 
 #[test]
@@ -214,7 +280,8 @@ fn a_profile_of_voids_states_zeros() {
         first_profile_with(&[voids[0], (97, least), (121, zero)])
     };
     assert_eq!(stated("                  -0D-99"), Answer::Taken);
-    assert_eq!(stated("                   1D-09"), refused(11, 1, 97));
+    assert_eq!(stated("                  1.D-09"), refused(11, 1, 97));
+    assert_eq!(stated("                     1D6"), refused(11, 1, 97));
 }
 
 #[test]

@@ -342,11 +342,14 @@ fn thirty_seven_numbers_are_too_few() {
 fn crafted_sums_show_all_there_is_to_see() {
     let mut seen = BTreeSet::new();
     let mut alone = 0;
-    sums::at_their_limits(&mut Dice::new(4), &mut |made| {
-        let left = made.delivery.leaves();
-        seen.extend(sums::shown(&made.delivery, &left));
-        alone += usize::from(broken(&made.delivery.numbers) == [SUM]);
-    });
+    // Few of a run's sessions have room for a sum past 32 bits.
+    for seed in 4..9 {
+        sums::at_their_limits(&mut Dice::new(seed), &mut |made| {
+            let left = made.delivery.leaves();
+            seen.extend(sums::shown(&made.delivery, &left));
+            alone += usize::from(broken(&made.delivery.numbers) == [SUM]);
+        });
+    }
     demand_all_seen(sums::sights(), &seen);
     assert!(alone > 1_000, "{alone}");
 }

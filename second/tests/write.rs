@@ -105,18 +105,72 @@ fn odd_template() -> Vec<u8> {
     put(&mut block, 169, "1D99                    ");
     put(&mut block, 505, "            999999999999");
     put(&mut block, 529, "000002    +2  0004");
-    put(&mut block, 547, "600                     ");
-    put(&mut block, 571, "9D2                     ");
+    put(&mut block, 547, "600.                    ");
+    put(&mut block, 571, "9.D2                    ");
     put(&mut block, 595, "            +600.0000000");
-    put(&mut block, 739, "-5                      ");
-    put(&mut block, 763, "1D-9                    ");
+    put(&mut block, 739, "-5.                     ");
+    put(&mut block, 763, "1.D-9                   ");
     put(&mut block, 787, "-0D-99                  ");
     put(&mut block, 811, "    +1");
-    put(&mut block, 817, "30          3D1         .1E1        ");
+    put(&mut block, 817, "30.         3.D1        .1E1        ");
     put(&mut block, 853, "000001    +1");
     put(&mut block, 865, "LATER, [KEPT]");
     put(&mut block, 1020, "KEPT!");
     block
+}
+
+/// The same with every real that is written anew without a point (02, request 4). Its extremes
+/// are other ones than the cells have, as above.
+fn template_without_points() -> Vec<u8> {
+    let mut block = odd_template();
+    put(&mut block, 547, "6D17                    ");
+    put(&mut block, 571, "      900000000000000000");
+    put(&mut block, 595, "   600000000000000D+03  ");
+    put(&mut block, 619, "000000960000000000000000");
+    put(&mut block, 643, "      +63000000000000E+4");
+    put(&mut block, 667, "96E16                   ");
+    put(&mut block, 691, " 63000000000000000000D-2");
+    put(&mut block, 715, "      900000000000000000");
+    put(&mut block, 739, "       -5000000000000000");
+    put(&mut block, 763, "                     1D6");
+    put(&mut block, 787, "                      00");
+    put(&mut block, 817, "  300000E+02    30000000100000E+01  ");
+    assert!(block[546..852].iter().all(|&byte| byte != b'.'));
+    block
+}
+
+/// READINGS-02, 4.7: what is sent always has a point.
+#[test]
+fn a_template_without_points_is_sent_with_them() {
+    let template = template_without_points();
+    let block = write_block(&template, &PAPER_CELLS, 0, 1024).expect("sent");
+    assert_eq!(field(&template, 817, 12), "  300000E+02");
+    assert_eq!(
+        field(&block, 817, 36),
+        "0.300000E+020.300000E+020.100000E+01"
+    );
+    let odd = write_block(&odd_template(), &PAPER_CELLS, 0, 1024).expect("sent");
+    assert_eq!(block[..], odd[..]);
+    let sheet = sheet_blocks(&template, &PAPER_CELLS).expect("sent");
+    assert_eq!(sheet[1..].concat(), paper::sheet()[1024..]);
+    // 3 and not 3,000,000: eleven columns of 21 rows.
+    let mut finer = template.clone();
+    put(&mut finer, 817, "  300000E+01  300000E+01");
+    let cells = vec![VOID; 11 * 21];
+    let block = write_block(&finer, &cells, 0, 1024).expect("sent");
+    assert_eq!(field(&block, 817, 24), "0.300000E+010.300000E+01");
+    assert_eq!(field(&block, 859, 6), "    11");
+    assert_eq!(write_block(&finer, &cells[1..], 0, 1024), Err((12, 0)));
+    // Whole numbers once, now too fine or out of range.
+    for (first, text, refusal) in [
+        (547, "600                     ", (8, 547)),
+        (817, "30          ", (7, 817)),
+        (841, "1           ", (7, 841)),
+    ] {
+        let mut template = odd_template();
+        put(&mut template, first, text);
+        assert_eq!(write_block(&template, &PAPER_CELLS, 0, 1024), Err(refusal));
+    }
 }
 
 #[test]
@@ -169,7 +223,7 @@ fn one_column(rows: usize) -> Vec<u8> {
     for (place, y) in [(1, "0"), (3, &north), (5, &north), (7, "0")] {
         put(&mut block, 547 + place * 24, &format!("{y:24}"));
     }
-    put(&mut block, 817, "1           1           1           ");
+    put(&mut block, 817, "1.          1.          1.          ");
     put(&mut block, 859, "     1");
     block
 }

@@ -117,7 +117,7 @@ RealAnswer s = Answer 24 s (SomeReal s) (λ t. Valued (t .negative) (t .mantissa
 
 -- the reading of a text that has the form
 abbrev valueOf : List ℕ → Reading
-valueOf s = realValue (starts isMinus (pastAll isBlank s)) (unsignedPart s)
+valueOf s = realValue (starts isMinus (pastAll isBlank s)) (length s) (unsignedPart s)
 
 value-is : {s : List ℕ} {n : Bool} {m p : ℕ} {l : Bool} {e : ℕ} {r : Reading} → RealText s n m p l e → Valued n m p l e r
     → valueOf s ≡ r
@@ -136,25 +136,34 @@ real-answers s =
     found : realForm (unsignedPart s) ≡ true → SomeReal s
     found e = record { negative = _; mantissa = _; places = _; lowered = _; power = _; form = real-found s e }
 
+means-formed : {s : List ℕ} {n : Bool} {m p : ℕ} {l : Bool} {e : ℕ} {z : ℤ} → RealText s n m p l e → Valued n m p l e (read z)
+    → RealMeans s z
+means-formed t (exact k h b) =
+    record {
+      negative = _;
+      mantissa = _;
+      places = _;
+      lowered = _;
+      power = _;
+      size = k;
+      form = t;
+      modest = h;
+      exact = b;
+      value = refl;
+    }
+
+-- texts that are taken apart alike mean the same
+pub same-means : {s t : List ℕ} {n : Bool} {m p : ℕ} {l : Bool} {e : ℕ} {z : ℤ} → RealText s n m p l e → RealText t n m p l e
+    → RealMeans s z → RealMeans t z
+same-means {n = n} {m} {p} {l} {e} a b means =
+    means-formed b
+    (subst (Valued n m p l e) (sym (real-read a .value) ∙ value-is (means .form) (means-valued means)) (valued m p l e n))
+
 pub real-means : (s : List ℕ) (z : ℤ) → (real s ≡ read z) ↔ (Fits 24 s × RealMeans s z)
 real-means s z = Iff·trans (real-answers s (read z)) (go, λ h. back (h .0) (h .1))
   where
     go : {z : ℤ} → RealAnswer s (read z) → Fits 24 s × RealMeans s z
-    go (formed f t (exact n h b)) = (
-      f,
-      record {
-        negative = t .negative;
-        mantissa = t .mantissa;
-        places = t .places;
-        lowered = t .lowered;
-        power = t .power;
-        size = n;
-        form = t .form;
-        modest = h;
-        exact = b;
-        value = refl;
-      },
-    )
+    go (formed f t v) = (f, means-formed (t .form) v)
 
     back : Fits 24 s → RealMeans s z → RealAnswer s (read z)
     back f m =

@@ -1,5 +1,5 @@
 -- A text has the grammar's form exactly when the form's test passes, and is taken apart alike: carried by the laws of its parts.
-use mathlib.Core.Bool.{true, not, Bool}
+use mathlib.Core.Bool.{true, false, not, cond, Bool}
 use mathlib.Core.List.{List, [], _∷_, _++_, append-nil}
 use mathlib.Core.Path.{_≡_, sym, refl, _∙_, ap}
 use Prim.Native.Nat.{ℕ, _≤_, _+_}
@@ -10,7 +10,7 @@ use Rattle.laws.proofs.Tests.{clash, and-both, and-first, and-second}
 use Rattle.number.specs.Bytes.{isEmpty, isDigit, pastAll, digits, isBlank, isMinus, starts, number, isPoint, pastOne}
 use Rattle.number.specs.Integer.{integerForm, integerValue, unsignedPart}
 use Rattle.number.specs.Grammar.{IntegerText, raised, sunk, RealText}
-use Rattle.number.specs.Real.{realForm, realValue, billionths, fractionPart, pastMantissa, mantissaDigits, powerForm, pastPower, powerMinus, powerSize}
+use Rattle.number.specs.Real.{realForm, realValue, billionths, fractionPart, pastMantissa, mantissaDigits, powerForm, pastPower, powerMinus, powerSize, hasPoint, decimals, assumed}
 use Rattle.number.proofs.Fields.{empty-some}
 use Rattle.number.proofs.GrammarParts.{Headed, digits-of, past-of, digits-open, head-past, head-minus, digits-past, digits-every, head-found, mantissa-opens, exponent-starts, fraction-read, power-read, past-every, past-stops, fraction-found, power-found}
 
@@ -59,9 +59,14 @@ integer-found s f =
       spells = refl;
     }
 
+-- no point stands, or one does: one choice
+point-or-not : (b : Bool) (standing put : ℕ) → cond b standing put ≡ cond (not b) put standing
+point-or-not true standing put = refl
+point-or-not false standing put = refl
+
 pub record RealRead (s : List ℕ) (negative : Bool) (mantissa places : ℕ) (lowered : Bool) (power : ℕ) : Type 0 where
   pub form : realForm (unsignedPart s) ≡ true
-  pub value : realValue (starts isMinus (pastAll isBlank s)) (unsignedPart s)
+  pub value : realValue (starts isMinus (pastAll isBlank s)) (length s) (unsignedPart s)
       ≡ billionths negative mantissa (9 + raised lowered power) (places + sunk lowered power)
 
 pub real-read : {s : List ℕ} {n : Bool} {m p : ℕ} {l : Bool} {e : ℕ} → RealText s n m p l e → RealRead s n m p l e
@@ -79,17 +84,19 @@ real-read {s} {n} t =
     let d : digits u ≡ xs = ap digits (head-past h o) ∙ digits-of xs (t .after ++ y) (t .digit) (f .stops) in
     let r : pastAll isDigit u ≡ t .after ++ y =
     ap (pastAll isDigit) (head-past h o) ∙ past-of isDigit xs (t .after ++ y) (t .digit) (f .stops) in
+    let p : isEmpty (t .after) ≡ not (hasPoint u) = f .stands ∙ ap (λ a. not (starts isPoint a)) (sym r) in
     let k : digits (fractionPart u) ≡ t .fraction = ap (λ a. digits (pastOne isPoint a)) r ∙ f .digits in
+    let places = point-or-not (hasPoint u) (length (t .fraction)) (assumed (length s)) ∙ rw p at (t .decimals) in
     let x : pastMantissa u ≡ y = ap (λ a. pastAll isDigit (pastOne isPoint a)) r ∙ f .past in
     let q : pastAll isBlank (t .rest) ≡ [] = rw append-nil at (past-of isBlank (t .rest) [] (t .ends) refl) in
     record {
       form = rw (d, k, x, w .form, w .past, q) (and-both (ap not (empty-some (xs ++ t .fraction) (t .some))) refl);
-      value = rw (d, k, x, w .minus, w .size, head-minus h o, t .spells, t .decimals);
+      value = rw (d, k, x, w .minus, w .size, head-minus h o, t .spells, places);
     }
 
 pub real-found : (s : List ℕ) → realForm (unsignedPart s) ≡ true
     → let u = unsignedPart s in
-    RealText s (starts isMinus (pastAll isBlank s)) (number 0 (mantissaDigits u)) (length (digits (fractionPart u)))
+    RealText s (starts isMinus (pastAll isBlank s)) (number 0 (mantissaDigits u)) (decimals (length s) u)
     (powerMinus (pastMantissa u)) (powerSize (pastMantissa u))
 real-found s f =
     let h = head-found s in
@@ -118,7 +125,7 @@ real-found s f =
       fractions = a .is;
       some = some-byte (mantissaDigits u) (and-first some (good and done) f);
       spells = refl;
-      decimals = refl;
+      decimals = rw (a .stands) (sym (point-or-not (hasPoint u) (length (digits (fractionPart u))) (assumed (length s))));
       exponents = w .is;
       ends = past-every isBlank (pastPower x) (and-second good done g);
     }

@@ -1,5 +1,5 @@
 -- The parts of a field, found and read back: head, digits, fraction, exponent. Carried by this: a run ends at the first other byte.
-use mathlib.Core.Bool.{true, Bool, cond, false}
+use mathlib.Core.Bool.{true, Bool, cond, false, not}
 use mathlib.Core.Path.{_≡_, refl, sym, ap, _∙_}
 use Prim.Native.Nat.{ℕ, _≤_, _<_}
 use borrow.Author.Tests.{leb-true, ne-eqb, le-leb, eqb-true}
@@ -146,6 +146,7 @@ module _ {s t : List ℕ} {n : Bool} (h : Headed s n t) (o : Opens t) where
 -- what stands after the whole digits, before a text y
 pub record FractionRead (after fraction y : List ℕ) : Type 0 where
   pub stops : starts isDigit (after ++ y) ≡ false
+  pub stands : isEmpty after ≡ not (starts isPoint (after ++ y))
   pub digits : digits (pastOne isPoint (after ++ y)) ≡ fraction
   pub past : pastAll isDigit (pastOne isPoint (after ++ y)) ≡ y
 
@@ -153,8 +154,9 @@ pub fraction-read : {after fraction : List ℕ} → Fraction after fraction → 
     → starts isDigit y ≡ false → FractionRead after fraction y
 fraction-read noPoint y p d =
     let e = one-of isPoint y p in
-    record { stops = d; digits = rw e (digits-of [] y refl d); past = rw e (past-of isDigit [] y refl d) }
-fraction-read (pointed xs h) y p d = record { stops = refl; digits = digits-of xs y h d; past = past-of isDigit xs y h d }
+    record { stops = d; stands = rw p; digits = rw e (digits-of [] y refl d); past = rw e (past-of isDigit [] y refl d) }
+fraction-read (pointed xs h) y p d =
+    record { stops = refl; stands = refl; digits = digits-of xs y h d; past = past-of isDigit xs y h d }
 
 pub mantissa-opens : (xs : List ℕ) {after f : List ℕ} → Fraction after f → (y : List ℕ) → every isDigit xs ≡ true
     → 1 ≤ length (xs ++ f) → Opens (xs ++ (after ++ y))
@@ -166,14 +168,15 @@ pub record FractionFound (t : List ℕ) : Type 0 where
   pub after : List ℕ
   pub text : t ≡ after ++ pastAll isDigit (pastOne isPoint t)
   pub is : Fraction after (digits (pastOne isPoint t))
+  pub stands : isEmpty after ≡ not (starts isPoint t)
 
 pub fraction-found : (t : List ℕ) → starts isDigit t ≡ false → FractionFound t
-fraction-found [] d = record { after = []; text = refl; is = noPoint }
+fraction-found [] d = record { after = []; text = refl; is = noPoint; stands = refl }
 fraction-found (c ∷ t) d =
     let is = pointed (digits t) (digits-every t) in
     by-test (eqb c 46)
-    (λ e. rw (eqb-true c 46 e) (record { after = 46 ∷ digits t; text = ap (λ r. 46 ∷ r) (digits-past t); is = is }))
-    (λ e. record { after = []; text = rw (isPoint, e, d); is = rw (isPoint, e, d) noPoint })
+    (λ e. rw (eqb-true c 46 e) (record { after = 46 ∷ digits t; text = ap (λ r. 46 ∷ r) (digits-past t); is = is; stands = refl }))
+    (λ e. record { after = []; text = rw (isPoint, e, d); is = rw (isPoint, e, d) noPoint; stands = rw (isPoint, e) })
 
 blanks-start : (is : ℕ → Bool) (xs : List ℕ) → is 32 ≡ false → every isBlank xs ≡ true → starts is xs ≡ false
 blanks-start is [] h e = refl

@@ -9,5 +9,6 @@ pub mod GrammarParts
 pub mod GrammarForms
 pub mod GrammarValues
 pub mod Grammar
+pub mod PutIn
 pub mod Limits
 pub mod OneAnswer

@@ -81,7 +81,7 @@ module _ (s : List ℕ) (z : real s .kind ≡ 0) where
   formed e g =
       let u = unsignedPart s in
       rw (e, g)
-      (billionths-limited (saysMinus s) (number 0 (mantissaDigits u)) (up u) (down u) (rw (e, g) at z))
+      (billionths-limited (saysMinus s) (number 0 (mantissaDigits u)) (up u) (down (length s) u) (rw (e, g) at z))
 
   pub real-limits : Limited (real s .value)
   real-limits = by-test fits (λ e. by-test form (formed e) (λ g. absurd (six e g))) (λ e. absurd (one e))
@@ -140,6 +140,6 @@ real-small s =
     by-test (leb 1 (length s) and leb (length s) 24)
     (λ e. by-test (realForm (unsignedPart s))
     (λ f. rw (e, f)
-    (billionths-small (saysMinus s) (number 0 (mantissaDigits (unsignedPart s))) (up (unsignedPart s)) (down (unsignedPart s))))
+    (billionths-small (saysMinus s) (number 0 (mantissaDigits (unsignedPart s))) (up (unsignedPart s)) (down (length s) (unsignedPart s))))
     (λ f. rw (e, f) (omega arith)))
     (λ e. rw e (omega arith))

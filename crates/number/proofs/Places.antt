@@ -1,15 +1,15 @@
 -- What one byte of a field decides: laws of `pastOne`, `pastAll`, `digits` and `number` at a place of a text, over any test of a byte.
 use mathlib.Core.List.{List, _∷_, []}
-use mathlib.Core.Path.{_≡_, refl, sym}
-use Prim.Native.Nat.{ℕ, _+_, _<_, _≤_}
+use mathlib.Core.Path.{_≡_, refl, sym, _∙_}
+use Prim.Native.Nat.{ℕ, _+_, _-_, _<_, _≤_}
 use native.Mathlib.Numerals.{add-one}
-use lib.ListN.{length, drop, getD, drop-of-length-le}
+use lib.ListN.{length, drop, getD, drop-of-length-le, length-drop}
 use lib.Seq.{drop-cons}
-use mathlib.Core.Bool.{Bool, true, false}
+use mathlib.Core.Bool.{Bool, true, false, cond}
 use native.Mathlib.Omega.{arith}
-use lib.Dec.{leb}
-use borrow.Author.Tests.{leb-true}
-use Rattle.laws.proofs.Tests.{clash}
+use lib.Dec.{leb, ltb}
+use borrow.Author.Tests.{leb-true, lt-ltb, le-ltb}
+use Rattle.laws.proofs.Tests.{clash, by-test}
 use Rattle.number.specs.Bytes.{starts, pastOne, pastAll, isDigit, digits}
 use Rattle.number.specs.Steps.{Past}
 
@@ -40,6 +40,21 @@ module _ (is : ℕ → Bool) (s : List ℕ) (i : ℕ) where
 
   pub all-end : length s ≤ i → drop i s ≡ pastAll is (drop i s)
   all-end k = rw (drop-of-length-le s k)
+
+-- past one such byte, if there is one: the place moves on exactly where it stands
+one-length : (is : ℕ → Bool) (l : List ℕ) (b : Bool) → starts is l ≡ b → length (pastOne is l) + cond b 1 0 ≡ length l
+one-length is [] true e = clash (sym e)
+one-length is [] false e = refl
+one-length is (c ∷ l) true e = rw e (omega arith)
+one-length is (c ∷ l) false e = rw e (omega arith)
+
+pub one-stands : (is : ℕ → Bool) (s : List ℕ) (from r : ℕ) → Past (pastOne is) s from r → ltb from r ≡ starts is (drop from s)
+one-stands is s from r p =
+    by-test (starts is (drop from s)) (λ e. lt-ltb from r (omega (arith, moved true e, p)) ∙ sym e)
+    (λ e. le-ltb from r (omega (arith, moved false e, p)) ∙ sym e)
+  where
+    moved : (b : Bool) → starts is (drop from s) ≡ b → (length s - r) + cond b 1 0 ≡ length s - from
+    moved b e = rw (← length-drop r s, ← length-drop from s, p .is) (one-length is (drop from s) b e)
 
 -- a digit is a byte from 48 to 57
 pub digit-range : (c : ℕ) → isDigit c ≡ true → (48 ≤ c) × (c ≤ 57)

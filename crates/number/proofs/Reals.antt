@@ -1,16 +1,19 @@
 -- A real field judged by the places that the code found, and its value from the kept digits.
-use mathlib.Core.Bool.{true, false, Bool, not}
+use mathlib.Core.Bool.{true, false, Bool, not, cond}
+use lib.Dec.{ltb, eqb}
 use mathlib.Core.List.{List}
 use mathlib.Core.Path.{_≡_, _∙_, sym, ap, subst⁻¹}
-use Prim.Native.Nat.{ℕ, _≤_, _+_, _<_}
+use Prim.Native.Nat.{ℕ, _≤_, _+_, _<_, _-_}
 use lib.ListN.{length, drop, length-drop}
 use native.Mathlib.Nat.{add-zero}
 use native.Mathlib.Omega.{arith}
-use Rattle.laws.proofs.Tests.{and-fails-first, and-fails-second}
+use Rattle.laws.proofs.Tests.{and-fails-first, and-fails-second, by-test}
 use Rattle.number.specs.Bytes.{isBlank, isMinus, starts, pastAll, isEmpty, digits, isDigit, number}
 use Rattle.number.specs.Integer.{unsignedPart, refused}
-use Rattle.number.specs.Real.{real, realForm, realValue, mantissaDigits, fractionPart, pastMantissa, powerForm, powerMinus, powerSize, pastPower}
+use Rattle.number.specs.Grammar.{raised, sunk}
+use Rattle.number.specs.Real.{real, realForm, realValue, mantissaDigits, fractionPart, pastMantissa, powerForm, powerMinus, powerSize, pastPower, decimals, assumed}
 use Rattle.number.specs.Steps.{Past, MantissaAt, PowerAt, ScaledAt, Leads, none, keptAll, readingOf}
+use Rattle.number.specs.declared.decimal.Kept.{Kept}
 use Rattle.number.specs.declared.decimal.Mantissa.{Mantissa}
 use Rattle.number.specs.declared.decimal.Power.{Power}
 use Rattle.number.specs.declared.decimal.Scaled.{Scaled}
@@ -23,7 +26,7 @@ module _ (s : List ℕ) (h : 1 ≤ length s) (k : length s ≤ 24) where
   unfolding real
   real-wrong f = within-good 24 s _ h k ∙ simp f
 
-  pub real-good : realForm (unsignedPart s) ≡ true → real s ≡ realValue (starts isMinus (pastAll isBlank s)) (unsignedPart s)
+  pub real-good : realForm (unsignedPart s) ≡ true → real s ≡ realValue (starts isMinus (pastAll isBlank s)) (length s) (unsignedPart s)
   unfolding real
   real-good f = within-good 24 s _ h k ∙ simp f
 
@@ -76,23 +79,35 @@ module _ (s : List ℕ) (u : ℕ) (is : drop u s ≡ unsignedPart s) (m : Mantis
           (digits-every (fractionPart (unsignedPart s))))
           leads-none)
 
-      places-is : m .places ≡ length (digits (fractionPart (unsignedPart s)))
-      places-is = ma .places ∙ ap (λ l. length (digits (fractionPart l))) is
-
       size-is : p .size ≡ powerSize (pastMantissa (unsignedPart s))
       size-is = pa .is good .size ∙ ap powerSize at-power
 
       minus-is : p .minus ≡ powerMinus (pastMantissa (unsignedPart s))
       minus-is = pa .is good .minus ∙ ap powerMinus at-power
 
-      pub value-lowered : p .minus ≡ true → (r : Scaled) → ScaledAt (m .kept) 9 (m .places + p .size) r → (minus : Bool)
-          → realValue minus (unsignedPart s) ≡ readingOf minus r
-      value-lowered e r sc minus =
-          let w : powerMinus (pastMantissa (unsignedPart s)) ≡ true = sym minus-is ∙ e in
-          rw (w, ← size-is, ← places-is) (sc .is _ kept-leads minus)
+      -- the digits behind the point, as the code has them
+      module _ (places : ℕ) (placed : places ≡ cond (ltb (m .whole) (m .point)) (m .next - m .point) (assumed (length s))) where
+        places-is : places ≡ decimals (length s) (unsignedPart s)
+        places-is = placed ∙ rw (ma .pointed, ma .standing, is)
 
-      pub value-raised : p .minus ≡ false → (r : Scaled) → ScaledAt (m .kept) (9 + p .size) (m .places) r → (minus : Bool)
-          → realValue minus (unsignedPart s) ≡ readingOf minus r
-      value-raised e r sc minus =
-          let w : powerMinus (pastMantissa (unsignedPart s)) ≡ false = sym minus-is ∙ e in
-          rw (w, ← size-is, ← places-is, add-zero) (sc .is _ kept-leads minus)
+        pub value-is : (r : Scaled)
+            → ScaledAt (m .kept) (9 + raised (p .minus) (p .size)) (places + sunk (p .minus) (p .size)) r → (minus : Bool)
+            → realValue minus (length s) (unsignedPart s) ≡ readingOf minus r
+        value-is r sc minus = rw (← minus-is, ← size-is, ← places-is) (sc .is _ kept-leads minus)
+
+-- what the code scales by, on either side of its test of the exponent's sign
+module _ (k : Kept) (places size : ℕ) (b : Bool) (r : Scaled) where
+  pub scaled-lowered : b ≡ true → ScaledAt k 9 (places + size) r → ScaledAt k (9 + raised b size) (places + sunk b size) r
+  scaled-lowered e sc = rw e sc
+
+  pub scaled-raised : b ≡ false → ScaledAt k (9 + size) places r → ScaledAt k (9 + raised b size) (places + sunk b size) r
+  scaled-raised e sc = rw (e, add-zero) sc
+
+pub assumed-between : (bytes : ℕ) → (1 ≤ assumed bytes) × (assumed bytes ≤ 15)
+assumed-between bytes =
+    by-test (eqb bytes 12) (λ e. rw e (omega arith, omega arith))
+    (λ e. by-test (eqb bytes 7) (λ f. rw (e, f) (omega arith, omega arith)) (λ f. rw (e, f) (omega arith, omega arith)))
+
+pub decimals-few : (pointed : Bool) (standing bytes : ℕ) → standing ≤ 24 → cond pointed standing (assumed bytes) ≤ 24
+decimals-few true standing bytes h = h
+decimals-few false standing bytes h = omega (arith, assumed-between bytes .1)

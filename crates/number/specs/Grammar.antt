@@ -2,13 +2,14 @@
 -- reads by these; that `integer` and `real` say the same, both ways and for every kind, is proved in proofs/Grammar.antt.
 use mathlib.Core.Bool.{Bool, true, false, cond}
 use mathlib.Core.List.{List, [], _∷_, _++_}
-use Prim.Native.Nat.{ℕ, _≤_, _+_, _*_, _^_, _<_}
+use Prim.Native.Nat.{ℕ, _≤_, _+_, _-_, _*_, _^_, _<_}
 use mathlib.Core.Path.{_≡_}
-use lib.ListN.{length}
+use lib.ListN.{length, replicate, take, drop}
 use lib.IntN.{ℤ}
 use Rattle.laws.specs.Texts.{every}
 use Rattle.laws.specs.Sign.{signed}
-use Rattle.number.specs.Bytes.{isBlank, isDigit, number, isLetter}
+use Rattle.number.specs.Bytes.{isBlank, isDigit, number, isLetter, isEmpty}
+use Rattle.number.specs.Real.{assumed}
 
 -- "an optional sign": no byte, 43 (+) or 45 (-), and whether it is a minus
 pub data Sign : List ℕ → Bool → Type 0 where
@@ -56,7 +57,8 @@ pub record RealText (s : List ℕ) (negative : Bool) (mantissa places : ℕ) (lo
   pub fractions : Fraction after fraction
   pub some : 1 ≤ length (digits ++ fraction)
   pub spells : number 0 (digits ++ fraction) ≡ mantissa
-  pub decimals : length fraction ≡ places
+  -- 02, request 4: behind the point that stands, or behind the one put in where none does
+  pub decimals : cond (isEmpty after) (assumed (length s)) (length fraction) ≡ places
   pub exponents : Exponent exponent lowered power
   pub ends : every isBlank rest ≡ true
 
@@ -79,6 +81,20 @@ pub record Billionths (mantissa places : ℕ) (lowered : Bool) (power n : ℕ) :
   pub zeros : ℕ
   pub few : front < 10 ^ 15
   pub digits : n ≡ front * 10 ^ zeros
+
+-- 02, request 4, as it says it: zeros in front of fewer than d digits, and a point before the last d. That a field without a point means what it
+-- means with this one, for the d of its own length, is `point-put-in`.
+abbrev pub filled : ℕ → List ℕ → List ℕ
+filled d digits = replicate (d - length digits) 48 ++ digits
+
+abbrev pub pointBeforeLast : ℕ → List ℕ → List ℕ
+pointBeforeLast d digits =
+    take (length (filled d digits) - d) (filled d digits) ++ (46 ∷ drop (length (filled d digits) - d) (filled d digits))
+
+abbrev pub withPoint : {s : List ℕ} {negative : Bool} {mantissa places : ℕ} {lowered : Bool} {power : ℕ}
+    → RealText s negative mantissa places lowered power → List ℕ
+withPoint {s} t =
+    t .blanks ++ (t .sign ++ (pointBeforeLast (assumed (length s)) (t .digits) ++ (t .exponent ++ t .rest)))
 
 -- a text, of any length, that is a real field of value z billionths
 pub record RealMeans (s : List ℕ) (z : ℤ) : Type 0 where

@@ -1,4 +1,4 @@
--- Document 01, "Number fields": a real field, read alone, in billionths.
+-- Document 01, "Number fields", and 02, request 4: a real field, read alone, in billionths.
 use mathlib.Core.List.{List, _++_}
 use Prim.Native.Nat.{ℕ, _+_, _*_, _/_, _%_, _^_}
 use mathlib.Core.Bool.{Bool, true, cond, false, not}
@@ -41,12 +41,23 @@ abbrev pub realForm : List ℕ → Bool
 realForm u =
     not (isEmpty (mantissaDigits u)) and powerForm (pastMantissa u) and isEmpty (pastAll isBlank (pastPower (pastMantissa u)))
 
+-- 02, request 4: the digits that stand behind the point put in where a field of so many bytes has none
+abbrev pub assumed : ℕ → ℕ
+assumed bytes = cond (eqb bytes 12) 6 (cond (eqb bytes 7) 4 15)
+
+abbrev pub hasPoint : List ℕ → Bool
+hasPoint u = starts isPoint (pastAll isDigit u)
+
+-- the digits behind the point: the one that stands, or else the one put in. Zeros filled in front of too few digits are no other number.
+abbrev pub decimals : ℕ → List ℕ → ℕ
+decimals bytes u = cond (hasPoint u) (length (digits (fractionPart u))) (assumed bytes)
+
 -- the value in billionths is mantissa × 10 ^ up / 10 ^ down
 abbrev pub up : List ℕ → ℕ
 up u = 9 + cond (powerMinus (pastMantissa u)) 0 (powerSize (pastMantissa u))
 
-abbrev pub down : List ℕ → ℕ
-down u = length (digits (fractionPart u)) + cond (powerMinus (pastMantissa u)) (powerSize (pastMantissa u)) 0
+abbrev pub down : ℕ → List ℕ → ℕ
+down bytes u = decimals bytes u + cond (powerMinus (pastMantissa u)) (powerSize (pastMantissa u)) 0
 
 -- the value: first 7, from 10 ^ 9 units on; then 8, where billionths do not say it or 15 digits do not
 unfoldable pub billionths : Bool → ℕ → ℕ → ℕ → Reading
@@ -56,10 +67,10 @@ billionths minus m u d =
     (read (signed minus (m * 10 ^ u / 10 ^ d)))
     (refused 8))
 
-abbrev pub realValue : Bool → List ℕ → Reading
-realValue minus u = billionths minus (number 0 (mantissaDigits u)) (up u) (down u)
+abbrev pub realValue : Bool → ℕ → List ℕ → Reading
+realValue minus bytes u = billionths minus (number 0 (mantissaDigits u)) (up u) (down bytes u)
 
 unfoldable pub real : List ℕ → Reading
 real s =
     ofLength 24 s
-    (cond (realForm (unsignedPart s)) (realValue (starts isMinus (pastAll isBlank s)) (unsignedPart s)) (refused 6))
+    (cond (realForm (unsignedPart s)) (realValue (starts isMinus (pastAll isBlank s)) (length s) (unsignedPart s)) (refused 6))

@@ -12,7 +12,7 @@ use Rattle.number.specs.declared.walk.Whole.{Whole}
 use Rattle.number.specs.declared.decimal.Kept.{Kept}
 use Rattle.number.specs.declared.decimal.Run.{Run}
 use Rattle.number.specs.declared.decimal.Mantissa.{Mantissa}
-use Rattle.number.specs.Real.{mantissaDigits, pastMantissa, fractionPart, pastPower, powerMinus, powerSize, powerForm, billionths}
+use Rattle.number.specs.Real.{mantissaDigits, pastMantissa, fractionPart, hasPoint, pastPower, powerMinus, powerSize, powerForm, billionths}
 use Rattle.number.specs.declared.decimal.Power.{Power}
 use Rattle.number.specs.declared.decimal.Scaled.{Scaled}
 use Rattle.number.specs.declared.decimal.Scaled.the-variants.{Exact, Refused}
@@ -54,8 +54,9 @@ none = record { head = 0; dropped = 0; more = false }
 pub record MantissaAt (s : List ℕ) (from : ℕ) (m : Mantissa) : Type 0 where
   pub past : Past pastMantissa s from (m .next)
   pub count : m .digits ≡ length (mantissaDigits (drop from s))
-  pub places : m .places ≡ length (digits (fractionPart (drop from s)))
-  pub narrow : m .places ≤ m .next
+  pub pointed : ltb (m .whole) (m .point) ≡ hasPoint (drop from s)
+  pub order : m .point ≤ m .next
+  pub standing : m .next - m .point ≡ length (digits (fractionPart (drop from s)))
   pub kept : m .kept ≡ keptAll none (mantissaDigits (drop from s))
   pub small : m .kept .head < 10 ^ 15
   pub few : m .kept .dropped ≤ m .next

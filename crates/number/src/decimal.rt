@@ -4,7 +4,9 @@ use crate::walk;
 ghost use mathlib.Core.Path.{_≡_};
 ghost use Prim.Native.Nat.{_+_, _≤_, _<_, _^_};
 ghost use lib.ListN.{length};
+ghost use mathlib.Core.Bool.{cond};
 ghost use Rattle.number.specs.Bytes.{isPoint, isLetter, pastOne};
+ghost use Rattle.number.specs.Real.{assumed};
 ghost use Rattle.number.specs.Steps.{Past, RunAt, MantissaAt, PowerAt, ScaledAt, keptOne, upOf, downOf};
 
 // The digits of a mantissa so far: the number of the first 15 that count, how many came after, and whether one of those is not zero.
@@ -19,10 +21,12 @@ pub(crate) struct Run {
     pub kept: Kept,
 }
 
+// A mantissa's places: past its whole digits, where a point stands if there is one; past that point; past the digits behind it.
 pub(crate) struct Mantissa {
+    pub whole: usize,
+    pub point: usize,
     pub next: usize,
     pub digits: usize,
-    pub places: usize,
     pub kept: Kept,
 }
 
@@ -112,18 +116,34 @@ pub(crate) fn read_mantissa(s: &[u8], from: usize) -> Mantissa
             more: false,
         },
     );
-    let point = a.next;
-    let f = past_point(s, point);
-    let whole = a.kept;
-    let b = keep_digits(s, f, whole);
+    let whole = a.next;
+    let point = past_point(s, whole);
+    let b = keep_digits(s, point, a.kept);
     let next = b.next;
     let kept = b.kept;
     Mantissa {
+        whole,
+        point,
         next,
-        digits: (point - from) + (next - f),
-        places: next - f,
+        digits: (whole - from) + (next - point),
         kept,
     }
+}
+
+// The digits behind the point: those that stand there, or what the field's length says where no point stands (02, request 4).
+pub(crate) fn decimals(bytes: usize, pointed: bool, standing: usize) -> usize
+    ensures { λ r. ⌜ r ≡ cond pointed standing (assumed bytes) ⌝ }
+{
+    if pointed {
+        return standing;
+    }
+    if bytes == 12 {
+        return 6;
+    }
+    if bytes == 7 {
+        return 4;
+    }
+    15
 }
 
 fn is_letter(c: u8) -> bool

@@ -153,14 +153,11 @@ pub fn read_real(field: &[u8]) -> Reading
         return refuse(WRONG_FORM);
     }
     let kept = m.kept;
+    let standing = x - m.point;
+    let places = decimal::decimals(n, m.whole < m.point, standing);
+    let minus = walk::minus_at(field, t);
     if p.minus {
-        return settle(
-            walk::minus_at(field, t),
-            decimal::scale(kept, 9, m.places + p.size),
-        );
+        return settle(minus, decimal::scale(kept, 9, places + p.size));
     }
-    settle(
-        walk::minus_at(field, t),
-        decimal::scale(kept, 9 + p.size, m.places),
-    )
+    settle(minus, decimal::scale(kept, 9 + p.size, places))
 }

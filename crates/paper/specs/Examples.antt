@@ -1,27 +1,37 @@
 -- Document 01, "Examples on the edge": the examples marked *, one table. A row says what is asked and what the paper tells.
-use Prim.Native.Nat.{ℕ, _/_, _^_, _*_}
+use Prim.Native.Nat.{ℕ, _/_, _^_, _*_, _-_}
 use Prim.Native.String.{String}
 use lib.IntN.{ℤ, pos, _*ℤ_, negsuc, negℤ}
 use mathlib.Core.Path.{_≡_}
-use mathlib.Core.List.{List, [], _∷_}
+use mathlib.Core.List.{List, [], _∷_, _++_}
+use lib.ListN.{length, replicate}
 use Rattle.laws.specs.Texts.{bytes}
 use Rattle.number.specs.declared.Reading.{Reading}
 use Rattle.number.specs.Integer.{integer, read, refused}
-use Rattle.number.specs.Real.{real}
+use Rattle.number.specs.Real.{real, assumed}
+use Rattle.number.specs.Grammar.{pointBeforeLast}
 use Rattle.lattice.specs.Lattice.{firstMultiple, lastMultiple}
 use Rattle.ground.specs.Posts.{blocksFor, height}
 
 pub data Example : Type 0 where
   integerField : String → Reading → Example
   realField : String → Reading → Example
+  realIn : ℕ → String → Reading → Example
+  pointGoes : ℕ → String → String → Example
   latticeStarts : ℤ → ℕ → ℤ → Example
   latticeEnds : ℤ → ℕ → ℤ → Example
   postsTake : ℕ → ℕ → Example
   postFills : ℤ → ℕ → ℤ → ℤ → Example
 
+-- a text at the right of its field
+abbrev pub atRight : ℕ → String → List ℕ
+atRight width text = replicate (width - length (bytes text)) 32 ++ bytes text
+
 abbrev pub Holds : Example → Type 0
 Holds (integerField text told) = integer (bytes text) ≡ told
 Holds (realField text told) = real (bytes text) ≡ told
+Holds (realIn width text told) = real (atRight width text) ≡ told
+Holds (pointGoes width digits told) = pointBeforeLast (assumed width) (bytes digits) ≡ bytes told
 Holds (latticeStarts corner spacing told) = firstMultiple corner spacing *ℤ pos spacing ≡ told
 Holds (latticeEnds corner spacing told) = lastMultiple corner spacing *ℤ pos spacing ≡ told
 Holds (postsTake posts told) = blocksFor posts ≡ told
@@ -50,6 +60,33 @@ table =
     ∷ realField "1.0D+09" (refused 7)
     ∷ realField "0.0D+99" (wholes 0)
     ∷ realField "                        " (refused 6)
+    -- 02, request 4: the field that old tapes carry, and its neighbours
+    ∷ realIn 12 "300000E+01" (wholes 3)
+    ∷ realField "300000E+01  " (wholes 3)
+    ∷ realField "300000E+01" (read (pos 3))
+    ∷ realIn 11 "300000E+01" (read (pos 3))
+    ∷ realIn 24 "300000E+01" (read (pos 3))
+    ∷ realIn 12 "30" (read (pos 30000))
+    ∷ realIn 12 "300000.E+01" (wholes 3000000)
+    ∷ realIn 7 "300000" (wholes 30)
+    ∷ realIn 7 "30" (read (pos (3 * 10 ^ 6)))
+    ∷ realField "600000 " (wholes 60)
+    ∷ realField "3000000" (wholes 300)
+    ∷ realIn 24 "1000000000" (read (pos 1000))
+    ∷ realIn 24 "600" (refused 8)
+    ∷ realField "5" (refused 8)
+    ∷ realIn 24 "1D24" (refused 7)
+    ∷ realIn 24 "1D23" (wholes (10 ^ 8))
+    ∷ realIn 24 "1D6" (read (pos 1))
+    ∷ realIn 24 "1D5" (refused 8)
+    ∷ realField "9999999999999999999999D3" (refused 7)
+    ∷ realField "9999999999999999999999D2" (refused 8)
+    ∷ realIn 24 "-0D-99" (wholes 0)
+    ∷ realField "0" (wholes 0)
+    ∷ pointGoes 12 "300000" ".300000"
+    ∷ pointGoes 12 "30" ".000030"
+    ∷ pointGoes 7 "600000" "60.0000"
+    ∷ pointGoes 10 "300000" ".000000000300000"
     ∷ integerField "      " (refused 6)
     ∷ integerField "    -7" (read (negsuc 6))
     ∷ latticeStarts (thousandths 549498713) (units 30) (pos (units 549510))

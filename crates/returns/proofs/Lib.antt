@@ -7,6 +7,7 @@ pub mod SentFollows
 pub mod Refusals
 pub mod Accepted
 pub mod ShutOutWriters
+pub mod OldTape
 pub mod WholeSheets
 pub mod Alike
 pub mod Demand2

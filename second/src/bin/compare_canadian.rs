@@ -7,8 +7,10 @@
 use second::asking::Asking;
 use second::comparing::{arguments, finish, number};
 use second::dice::Dice;
+use second::family::CANADIAN;
 use second::north::{answers, answers_of_runs, North};
 use second::north::{BROKEN_OFF, BROKEN_OFF_BY_RUNS, ENDS, WHOLE};
+use second::pointless::of_sheets;
 
 const USAGE: &str = "compare_canadian PROGRAM [SEED]";
 const USUAL_SEED: u64 = 20_030_110;
@@ -18,6 +20,7 @@ const FEWEST_RUNS: usize = 2_000;
 
 fn send_all(dice: &mut Dice, north: &mut North) {
     north.send_to_crafted(dice);
+    north.send_without_points(dice);
     for turn in 0..BROKEN_OFF {
         north.send_broken_off(dice, turn);
     }
@@ -44,13 +47,16 @@ fn main() {
         answers: met,
         runs,
         ends,
+        pointless,
         ..
     } = north;
     println!("deliveries {}", met.all());
     met.print("answers", &answers());
     runs.print("runs", &answers_of_runs());
     ends.print("sheets", &ENDS);
+    pointless.print("reals without a point", &of_sheets(CANADIAN));
     let mut found = met.never_seen(&answers());
+    found.extend(pointless.never_seen(&of_sheets(CANADIAN)));
     found.extend(runs.answers.never_seen(&answers_of_runs()));
     found.extend(ends.never_seen(&ENDS));
     if ends.all() < FEWEST_SHEETS {

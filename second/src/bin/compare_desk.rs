@@ -14,6 +14,7 @@ use second::kept::clauses::{self, clauses_of, FAMILY, NEGATIVE, TOO_FEW};
 use second::kept::place::FAMILY as FAMILY_PLACE;
 use second::kept::{self, name_of, HELD, NAMES, NUMBERS};
 use second::kind::{CORNER_DISAGREES, GRID_TOO_SHORT, UNSOUND};
+use second::pointless;
 use second::presses;
 use second::record_a::{self, Header};
 use second::runs::shown::{self, Look, Seen};
@@ -55,6 +56,8 @@ struct Run {
     sums: Counts,
     /// And about the family.
     of_families: Counts,
+    /// And about reals without a point; Canadian ones are for compare_canadian to see.
+    pointless: Counts,
     crafted_runs: Seen,
     runs_of_sheets: Seen,
     /// What runs of both sorts showed.
@@ -83,6 +86,7 @@ impl Run {
             altered: Counts::default(),
             sums: Counts::default(),
             of_families: Counts::default(),
+            pointless: Counts::default(),
             crafted_runs: Seen::default(),
             runs_of_sheets: Seen::default(),
             runs: Counts::default(),
@@ -129,6 +133,7 @@ impl Run {
             self.lent.see(name);
         }
         self.see_sum(&delivery, &left);
+        self.see_pointless(&delivery, &left);
         for name in of_families::shown(&delivery, &left) {
             self.of_families.see(name);
         }
@@ -151,6 +156,13 @@ impl Run {
     fn see_sum(&mut self, delivery: &Delivery, left: &Left) {
         for name in sums::shown(delivery, left) {
             self.sums.see(name);
+        }
+    }
+
+    fn see_pointless(&mut self, delivery: &Delivery, left: &Left) {
+        let (numbers, number) = (&delivery.numbers, delivery.number);
+        for name in pointless::shown_by_delivery(numbers, number, &delivery.block, left.told) {
+            self.pointless.see(name);
         }
     }
 
@@ -177,6 +189,7 @@ impl Run {
             self.families.see("whole sheets over a poor line");
             self.of_sheets.see(name_of(left.told.result));
             self.see_sum(&delivery, &left);
+            self.see_pointless(&delivery, &left);
             self.desk.ask(delivery.call(&left));
             self.ask_about(&mut ask_dice, &left.numbers);
         });
@@ -252,6 +265,9 @@ impl Run {
         for pair in asked.hidden() {
             hidden.see(pair);
         }
+        if asked.gives_a_point {
+            self.pointless.see(POINT_GIVEN[usize::from(asked.whole)]);
+        }
         self.desk.ask(asked.call);
     }
 
@@ -266,6 +282,8 @@ impl Run {
         self.lent.print("  lent", &all_lent_names());
         self.sums.print("the sum", &sums::sights());
         self.of_families.print("the family", &of_families::sights());
+        self.pointless
+            .print("reals without a point", &pointless_wanted());
         self.sessions.print("sound, complete, report", &SESSIONS);
         self.of_sheets
             .print("whole sheets over a poor line", &answers_of_sheets());
@@ -306,6 +324,7 @@ impl Run {
         found.extend(self.altered.never_seen(&altered_names()));
         found.extend(self.sums.never_seen(&sums::sights()));
         found.extend(self.of_families.never_seen(&of_families::sights()));
+        found.extend(self.pointless.never_seen(&pointless_wanted()));
         found.extend(self.sessions.never_seen(&SESSIONS));
         found.extend(self.lent.never_seen(&all_lent_names()));
         found.extend(self.of_sheets.never_seen(&answers_of_sheets()));
@@ -366,6 +385,18 @@ fn all_lent_names() -> Vec<String> {
     names.extend(grids.map(String::from));
     let grids = ["grid just enough, taken", "grid to spare, taken"];
     names.extend(grids.map(String::from));
+    names
+}
+
+/// A template's spacing without a point, which is read anew and sent with one.
+const POINT_GIVEN: [&str; 2] = [
+    "dem_write_block, point given to a spacing",
+    "dem_write_sheet, point given to a spacing",
+];
+
+fn pointless_wanted() -> Vec<String> {
+    let mut names = pointless::of_sheets(USGS);
+    names.extend(POINT_GIVEN.map(String::from));
     names
 }
 

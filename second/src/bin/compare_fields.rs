@@ -3,6 +3,7 @@
 //! was compared. Usage: compare_fields PROGRAM [SEED]
 
 use second::asking::{ask_all, eight, four, Question};
+use second::comparing;
 use second::number;
 use second::texts::FAMILIES;
 use std::process::exit;
@@ -14,6 +15,16 @@ const KINDS: [u32; 5] = [0, 1, 6, 7, 8];
 /// Kinds that must turn up, or the run has shown too little.
 const INTEGER_KINDS: &[u32] = &[0, 1, 6];
 const REAL_KINDS: &[u32] = &[0, 1, 6, 7, 8];
+/// A real has at most so many bytes, and a good one so many digits from the first to the last
+/// that is not zero.
+const LONGEST_REAL: usize = 24;
+const MOST_DIGITS: usize = 15;
+/// Reals without a point: so many of each length must be good and not zero, 7 and 8, as far as
+/// the length can say that. No exponent that makes up for fifteen decimals has room in two bytes,
+/// none that makes a number too large in three.
+const FEWEST_OF_A_LENGTH: u64 = 50;
+const SHORTEST_GOOD: usize = 3;
+const SHORTEST_TOO_LARGE: usize = 4;
 /// A text is shown up to here; longer ones only test the length.
 const SHOWN: usize = 64;
 
@@ -68,6 +79,7 @@ struct Counts {
     texts: u64,
     integers: Tally,
     reals: Tally,
+    pointless: Pointless,
 }
 
 impl Counts {
@@ -75,6 +87,126 @@ impl Counts {
         self.texts += 1;
         count(&mut self.integers, readings.integer.0);
         count(&mut self.reals, readings.real.0);
+        self.pointless.add(&readings.text, readings.real);
+    }
+}
+
+/// Reals of right form without a point (02, request 4), zeros left out.
+#[derive(Default)]
+struct Pointless {
+    /// Good, 7 and 8, by the length of the field.
+    by_length: [[u64; 3]; LONGEST_REAL + 1],
+    /// What else must have come up.
+    shown: comparing::Counts,
+}
+
+/// A real without a point: its digits from the first to the last that is not zero, all of them,
+/// its bytes, and its kind.
+struct Sight {
+    outer: usize,
+    digits: usize,
+    text: Vec<u8>,
+    kind: u32,
+}
+
+impl Sight {
+    fn has_exponent(&self) -> bool {
+        self.text.iter().any(|byte| b"DE".contains(byte))
+    }
+
+    fn too_many_digits(&self) -> bool {
+        self.outer > MOST_DIGITS
+    }
+}
+
+type Shown = (&'static str, fn(&Sight) -> bool);
+
+const SHOWN_WITHOUT_POINT: [Shown; 10] = [
+    ("good, no exponent", |s| s.kind == 0 && !s.has_exponent()),
+    ("good, an exponent", |s| s.kind == 0 && s.has_exponent()),
+    ("good, blanks before", |s| s.kind == 0 && s.text[0] == b' '),
+    ("good, blanks behind", |s| {
+        s.kind == 0 && s.text.ends_with(b" ")
+    }),
+    ("good, 24 digits", |s| s.kind == 0 && s.digits == 24),
+    ("8, 24 digits", |s| s.kind == 8 && s.digits == 24),
+    ("7 and not 8, too many digits", |s| {
+        s.kind == 7 && s.too_many_digits()
+    }),
+    ("7 and not 8, 22 digits", |s| {
+        s.kind == 7 && s.too_many_digits() && s.digits == 22
+    }),
+    ("8, too many digits", |s| s.kind == 8 && s.too_many_digits()),
+    ("8, few digits", |s| s.kind == 8 && !s.too_many_digits()),
+];
+
+fn names_without_point() -> [&'static str; SHOWN_WITHOUT_POINT.len()] {
+    SHOWN_WITHOUT_POINT.map(|(name, _)| name)
+}
+
+impl Pointless {
+    fn add(&mut self, text: &[u8], (kind, value): (u32, i64)) {
+        let place = match kind {
+            0 if value != 0 => 0,
+            7 => 1,
+            8 => 2,
+            _ => return,
+        };
+        if text.contains(&b'.') {
+            return;
+        }
+        self.by_length[text.len()][place] += 1;
+        let sight = sight_of(text, kind);
+        let held = SHOWN_WITHOUT_POINT
+            .iter()
+            .filter(|(_, holds)| holds(&sight));
+        for (name, _) in held {
+            self.shown.see(*name);
+        }
+    }
+
+    fn print(&self) {
+        println!("without a point, not zero");
+        println!("{:>6} {:>8} {:>8} {:>8}", "bytes", "good", "7", "8");
+        for (length, [good, large, fine]) in self.by_length.iter().enumerate().skip(1) {
+            println!("{length:>6} {good:>8} {large:>8} {fine:>8}");
+        }
+        self.shown.print("among them", &names_without_point());
+    }
+
+    fn shortcomings(&self) -> Vec<String> {
+        let mut found = self.shown.never_seen(&names_without_point());
+        for (length, times) in self.by_length.iter().enumerate().skip(1) {
+            let possible = [length >= SHORTEST_GOOD, length >= SHORTEST_TOO_LARGE, true];
+            for (place, word) in ["good", "too large", "too fine"].iter().enumerate() {
+                // One byte has nine texts that are no zero.
+                let fewest = if length == 1 { 9 } else { FEWEST_OF_A_LENGTH };
+                if possible[place] && times[place] < fewest {
+                    found.push(format!(
+                        "fewer than {fewest} reals of {length} bytes without a point are {word}"
+                    ));
+                }
+            }
+        }
+        found
+    }
+}
+
+fn sight_of(text: &[u8], kind: u32) -> Sight {
+    let digits: Vec<u8> = text
+        .iter()
+        .skip_while(|byte| !byte.is_ascii_digit())
+        .take_while(|byte| byte.is_ascii_digit())
+        .copied()
+        .collect();
+    let not_zero = |&digit: &u8| digit != b'0';
+    let first = digits.iter().position(not_zero).unwrap_or(0);
+    let last = digits.iter().rposition(not_zero).unwrap_or(0);
+    Sight {
+        outer: last + 1 - first,
+        digits: digits.len(),
+        text: text.to_vec(),
+        kind,
     }
 }
 
@@ -109,6 +241,7 @@ fn print_table(counts: &Counts) {
             counts.integers[place], counts.reals[place]
         );
     }
+    counts.pointless.print();
 }
 
 fn never_seen(tally: &Tally, wanted: &[u32]) -> Vec<u32> {
@@ -140,6 +273,7 @@ fn shortcomings(counts: &Counts) -> Vec<String> {
             ));
         }
     }
+    found.extend(counts.pointless.shortcomings());
     found
 }
 

@@ -4,11 +4,13 @@
 //! was compared. Usage: compare_record_a PROGRAM [SEED]
 
 use second::asking::{ask_all, four, Asking, Question};
-use second::comparing::finish;
+use second::block::{Record, BLOCK_LENGTH};
+use second::comparing::{self, finish};
 use second::desk::{Call, OfFamily};
 use second::dice::Dice;
 use second::family::{CANADIAN, USGS};
 use second::headers::{canadian, FAMILIES};
+use second::pointless;
 use second::record_a;
 use std::collections::BTreeMap;
 use std::process::exit;
@@ -26,6 +28,8 @@ const EVERY: u64 = 8;
 const UNKNOWN: [u32; 8] = [2, 3, 255, 256, 257, 1 << 16, 1 << 31, u32::MAX];
 /// And one of so many USGS blocks, of all kinds, by the calls with a family.
 const EVERY_OF_USGS: u64 = 30;
+/// One of so many that pass is looked at for reals without a point; of the refused all are.
+const EVERY_PASSED: u64 = 5;
 
 /// What one program says of a block.
 #[derive(Clone, Copy, Debug, PartialEq)]
@@ -102,14 +106,27 @@ struct Counts {
     faults: BTreeMap<(u32, u32), u64>,
     origins: BTreeMap<u32, u64>,
     name_lengths: BTreeMap<usize, u64>,
+    /// Reals without a point, and what came of them.
+    pointless: comparing::Counts,
 }
 
 impl Counts {
-    fn add(&mut self, found: Findings) {
+    fn add(&mut self, block: &[u8], found: Findings) {
         self.blocks += 1;
+        if found.kind != 0 || self.blocks.is_multiple_of(EVERY_PASSED) {
+            see_pointless(&mut self.pointless, USGS, block, (found.kind, found.byte));
+        }
         *self.faults.entry((found.kind, found.byte)).or_default() += 1;
         *self.origins.entry(found.origin).or_default() += 1;
         *self.name_lengths.entry(found.name_length).or_default() += 1;
+    }
+}
+
+fn see_pointless(seen: &mut comparing::Counts, family: i64, block: &[u8], fault: (u32, u32)) {
+    if block.len() == BLOCK_LENGTH {
+        for name in pointless::shown(family, Record::Header, block, fault) {
+            seen.see(name);
+        }
     }
 }
 
@@ -154,6 +171,7 @@ fn shortcomings(counts: &Counts) -> Vec<String> {
     for length in (0..=40).filter(|length| !counts.name_lengths.contains_key(length)) {
         found.push(format!("no name of {length} bytes"));
     }
+    found.extend(counts.pointless.never_seen(&pointless::of_headers(USGS)));
     found
 }
 
@@ -165,6 +183,9 @@ fn print_tables(counts: &Counts) {
     }
     println!("origins {:?}", counts.origins);
     println!("name lengths {:?}", counts.name_lengths);
+    counts
+        .pointless
+        .print("without a point", &pointless::of_headers(USGS));
 }
 
 /// The calls with a family: what was asked, and what came of it.
@@ -174,6 +195,7 @@ struct OfFamilies {
     faults: BTreeMap<(u32, u32), u64>,
     origins: BTreeMap<u32, u64>,
     blocks: u64,
+    pointless: comparing::Counts,
 }
 
 impl OfFamilies {
@@ -185,6 +207,7 @@ impl OfFamilies {
             faults: BTreeMap::new(),
             origins: BTreeMap::new(),
             blocks: 0,
+            pointless: comparing::Counts::default(),
         }
     }
 
@@ -200,7 +223,11 @@ impl OfFamilies {
 
     fn canadian(&mut self, block: &[u8]) {
         let found = self.ask(CANADIAN_NUMBER, block);
-        *self.faults.entry((found.kind, found.byte)).or_default() += 1;
+        let fault = (found.kind, found.byte);
+        if fault.0 != 0 || self.blocks.is_multiple_of(EVERY_PASSED) {
+            see_pointless(&mut self.pointless, CANADIAN, block, fault);
+        }
+        *self.faults.entry(fault).or_default() += 1;
         *self.origins.entry(found.origin).or_default() += 1;
         if found.kind == 0 && record_a::check(block).is_ok() {
             self.see("obeys both families");
@@ -253,6 +280,8 @@ impl OfFamilies {
         }
         println!("origins {:?}", self.origins);
         println!("besides {:?}", self.asked);
+        self.pointless
+            .print("without a point", &pointless::of_headers(CANADIAN));
     }
 
     fn shortcomings(&self) -> Vec<String> {
@@ -264,6 +293,7 @@ impl OfFamilies {
             found.push("fewer than a tenth of the Canadian blocks pass".to_string());
         }
         found.extend(unmet("Canadian, ", &canadian_faults(), &self.faults));
+        found.extend(self.pointless.never_seen(&pointless::of_headers(CANADIAN)));
         for origin in (0..=15).filter(|origin| !self.origins.contains_key(origin)) {
             found.push(format!("Canadian origin {origin} never seen"));
         }
@@ -311,7 +341,7 @@ fn main() {
     let mut some = Vec::new();
     let desk = ask_all(USAGE, USUAL_SEED, FAMILIES, |block| {
         let (number, findings) = (counts.blocks, second_findings(block));
-        counts.add(findings);
+        counts.add(block, findings);
         if number % EVERY_OF_USGS == 0 {
             some.push(block.to_vec());
         }

@@ -4,8 +4,10 @@
 
 use second::block::Record;
 use second::comparing::{self, line_difference, Asked, Counts, Mismatch};
+use second::family::USGS;
 use second::load::Answer;
 use second::meaning::Figures;
+use second::pointless;
 use second::replay::{self, Event, Outcome};
 use second::scripts::accident::THE_CUSTOMERS_ACCIDENT;
 use second::scripts::{self, FAMILIES};
@@ -32,6 +34,8 @@ struct Tally {
     places: BTreeMap<Place, usize>,
     /// What the sums in the session lines were.
     sums: Counts,
+    /// In how many scripts a real without a point was taken, or refused.
+    pointless: Counts,
 }
 
 impl Tally {
@@ -39,6 +43,9 @@ impl Tally {
         self.scripts += 1;
         self.bad_scripts += usize::from(outcome.bad());
         *self.families.entry(family).or_default() += 1;
+        for name in &outcome.pointless {
+            self.pointless.see(name);
+        }
         for event in &outcome.events {
             let (kind, byte) = kind_and_byte(event);
             *self.answers.entry(kind).or_default() += 1;
@@ -195,6 +202,7 @@ fn shortcomings(tally: &Tally) -> Vec<String> {
     }
     let unseen = tally.sums.never_seen(&sums_wanted());
     found.extend(unseen.iter().map(|name| format!("sum {name}")));
+    found.extend(tally.pointless.never_seen(&pointless::of_sheets(USGS)));
     for family in FAMILIES {
         if !tally.families.contains_key(family.name) {
             found.push(format!("no script of family {}", family.name));
@@ -234,6 +242,10 @@ fn print_tables(tally: &Tally) {
         println!("{:<28} {times:>7}", format!("  11 at byte {byte}"));
     }
     tally.sums.print("sums at the end", &sums_wanted());
+    tally.pointless.print(
+        "reals without a point, in scripts",
+        &pointless::of_sheets(USGS),
+    );
     let accidents = tally.families.get(THE_CUSTOMERS_ACCIDENT).unwrap_or(&0);
     println!("run: {THE_CUSTOMERS_ACCIDENT}, {accidents} times");
 }

@@ -78,7 +78,7 @@ pub fn several_numbers_altered(dice: &mut Dice, visit: &mut Visit) {
 type Bend = fn(&mut Dice, &mut Kept);
 
 /// Where one number alone would bend another clause too, or none.
-const BENDS: [Bend; 12] = [
+const BENDS: [Bend; 13] = [
     any_pair,
     any_pair,
     another_size,
@@ -94,6 +94,7 @@ const BENDS: [Bend; 12] = [
     as_utm,
     read_to_the_end,
     fewer_posts,
+    |_, kept| one_too_many(kept),
 ];
 
 /// A session that has begun, bent once or, at times, twice.
@@ -151,6 +152,16 @@ fn add_a_record_c(kept: &mut Kept) {
 fn as_utm(_: &mut Dice, kept: &mut Kept) {
     let header = &mut kept.header;
     (header.system, header.zone, header.ground_unit) = (1, 17, 2);
+}
+
+/// A profile open although all are closed, each of those of one post and one block at least.
+fn one_too_many(kept: &mut Kept) {
+    if kept.has_open() {
+        let more = CANADIAN_SIDE - kept.closed;
+        kept.closed += more;
+        kept.posts += more;
+        kept.taken += more;
+    }
 }
 
 /// As many blocks as 1201 posts never need.

@@ -11,7 +11,7 @@ use crate::texts::Visit;
 pub fn every_field(dice: &mut Dice, visit: &mut Visit) {
     for field in HEADER_FIELDS {
         for text in field.telling_texts() {
-            for _ in 0..30 {
+            for _ in 0..20 {
                 let mut block = any_block(dice);
                 put(&mut block, field.first, &text);
                 visit(&block);

@@ -1,11 +1,14 @@
 //! What an order shows about a writer. A run in which something of this was never seen
 //! has compared too little.
 
-use crate::block::{BLOCK_LENGTH, HUNDREDTH, UNIT, USUAL_CELLS};
+use crate::block::{stretch, Record, BLOCK_LENGTH, HUNDREDTH, UNIT, USUAL_CELLS};
+use crate::family::USGS;
 use crate::meaning::VOID_CELL;
+use crate::pointless;
 use crate::record_a::{self, Header};
 use crate::sender::{parts_of, Outcome};
 use crate::write::fits;
+use crate::written;
 
 /// What sheets that were sent show, by name.
 type OfSheets = (&'static str, fn(&SentSheet) -> bool);
@@ -28,6 +31,23 @@ const SENT: &[OfSheets] = &[
     ("template with accuracy 1", |s| s.header.accuracy == 1),
     ("template of fewer profiles", |s| s.header.n < s.columns()),
     ("template kept as it is", |s| s.template_is_kept),
+    ("template, no point in a corner", |s| s.has_no_point("SW x")),
+    ("template, no point in an extreme", |s| {
+        s.has_no_point("sheet's least")
+    }),
+    ("template, no point in the angle", |s| {
+        s.has_no_point("angle")
+    }),
+    ("template, no point in x spacing", |s| {
+        s.has_no_point("x spacing")
+    }),
+    ("template, no point in y spacing", |s| {
+        s.has_no_point("y spacing")
+    }),
+    ("template, no point in z spacing", |s| {
+        s.has_no_point("z spacing")
+    }),
+    ("x spacing as 300000E+02", |s| s.has_an_old_spacing()),
     ("cells just enough", |s| s.spare.is_empty()),
     ("cells to spare", |s| !s.spare.is_empty()),
     ("unfit cells to spare", |s| s.spares_an_unfit_cell()),
@@ -56,6 +76,12 @@ const REFUSED: &[OfRefusals] = &[
     ("refused 1, 1,023 bytes", |v| v.input.len() == 1023),
     ("refused 5 1", |v| v.refused(5, 1)),
     ("refused 5 865", |v| v.refused(5, 865)),
+    ("refused 7, no point in the template", |v| {
+        v.refused_without_point(7)
+    }),
+    ("refused 8, no point in the template", |v| {
+        v.refused_without_point(8)
+    }),
     ("refused 10 547", |v| v.refused(10, 547)),
     ("refused 10 817", |v| v.refused(10, 817)),
     ("refused 10 859", |v| v.refused(10, 859)),
@@ -113,6 +139,7 @@ struct SentSheet<'a> {
     header: &'a Header,
     cells: &'a [i32],
     spare: &'a [i32],
+    template: &'a [u8],
     /// Block 0 came out as the template was.
     template_is_kept: bool,
 }
@@ -166,6 +193,19 @@ impl SentSheet<'_> {
         self.cells.iter().any(|&cell| i64::from(cell) == wanted)
     }
 
+    /// The real of this name in the template, which is written anew with a point.
+    fn has_no_point(&self, name: &str) -> bool {
+        let names = pointless::shown(USGS, Record::Header, self.template, (0, 0));
+        let start = format!("{name}, ");
+        names.iter().any(|shown| shown.starts_with(&start))
+    }
+
+    /// Six digits and an exponent, as the writer's own spelling has them behind its point.
+    fn has_an_old_spacing(&self) -> bool {
+        let own = written::spacing(self.header.x_spacing);
+        stretch(self.template, 817, 828).trim_ascii() == &own[2..]
+    }
+
     fn lies_below_zero(&self) -> bool {
         self.header.corners.iter().all(|&value| value < 0)
     }
@@ -192,12 +232,24 @@ impl View<'_> {
             header,
             cells,
             spare,
+            template: &self.input[..BLOCK_LENGTH],
             template_is_kept: blocks[0][..] == self.input[..BLOCK_LENGTH],
         })
     }
 
     fn refused(&self, kind: u32, number: u32) -> bool {
         *self.outcome == Outcome::Refused { kind, number }
+    }
+
+    fn refused_without_point(&self, kind: u32) -> bool {
+        match *self.outcome {
+            Outcome::Refused { kind: told, number } if told == kind => {
+                let template = &self.input[..BLOCK_LENGTH];
+                let names = pointless::shown(USGS, Record::Header, template, (kind, number));
+                !names.is_empty()
+            }
+            _ => false,
+        }
     }
 
     fn bad(&self) -> bool {

@@ -3,7 +3,7 @@
 use super::canadian::damaged_header;
 use super::damage::{damaged, fields_of, nudge, post_field, Field};
 use super::{put, Sent};
-use crate::block::{Record, BLOCK_LENGTH, HUNDREDTH, INTEGER_WIDTH, UNIT};
+use crate::block::{Record, BLOCK_LENGTH, HUNDREDTH, INTEGER_WIDTH, REAL_WIDTH, UNIT};
 use crate::dice::Dice;
 use crate::family::CANADIAN;
 use crate::profile::{POSTS_OF_FIRST_BLOCK, POSTS_OF_FURTHER_BLOCK};
@@ -32,7 +32,7 @@ fn damage_start(dice: &mut Dice, header: &Header, block: &mut [u8]) {
         (25, header.x_spacing, columns),
         (49, header.y_spacing, rows),
     );
-    let choice = dice.size(0, 7);
+    let choice = dice.size(0, 8);
     if choice <= 4 {
         move_along(dice, eastward, block);
     }
@@ -47,8 +47,23 @@ fn damage_start(dice: &mut Dice, header: &Header, block: &mut [u8]) {
             replace(dice, &[post_field(Record::ProfileStart, any)], block);
         }
         3 => nudge(dice, block, 97, UNIT),
+        8 => put_without_point(dice.size(0, POINTLESS_TURNS - 1), block),
         _ => {}
     }
+}
+
+/// For a profile's reals, which have fifteen decimals where they have no point: too large, too
+/// fine, and two that only some rules are against.
+const POINTLESS: [&str; 6] = ["1D24", "-1D+24", "1D5", "-7D-9", "1D20", "1D12"];
+const PROFILE_REALS: usize = 5;
+
+/// Each of these in each of the reals of a profile's first block, in turn.
+pub const POINTLESS_TURNS: usize = POINTLESS.len() * PROFILE_REALS;
+
+pub fn put_without_point(turn: usize, block: &mut [u8]) {
+    let first = 25 + turn % PROFILE_REALS * REAL_WIDTH;
+    let text = POINTLESS[turn / PROFILE_REALS % POINTLESS.len()];
+    put(block, first, format!("{text:>REAL_WIDTH$}").as_bytes());
 }
 
 /// Some columns or rows away, on the lattice or a hair beside it.
@@ -93,7 +108,18 @@ pub fn spoil_a_real(dice: &mut Dice, record: Record, block: &mut [u8]) {
     let judged = reals.filter(|field| !any_value(field.first));
     let judged: Vec<&Field> = judged.collect();
     let field = dice.pick(&judged);
-    let text = *dice.pick(&["1D+9", "-1D9", "1D-10", ".0000000001", "1.5D-9"]);
+    // Without a point these are too large or too fine in a field of either width.
+    let text = *dice.pick(&[
+        "1.D+9",
+        "-1.D9",
+        "1.D-10",
+        ".0000000001",
+        "1.5D-9",
+        "1D24",
+        "-1D+30",
+        "1D-4",
+        "-5D-9",
+    ]);
     let text = format!("{text:>width$}", width = field.width);
     put(block, field.first, text.as_bytes());
 }

@@ -30,11 +30,12 @@ pub struct Angle {
     pub value: i64,
 }
 
-/// Seconds of every spelling that seven bytes hold.
-const SECONDS: [&str; 28] = [
+/// Seconds of every spelling that seven bytes hold. Without a point they have four decimals.
+const SECONDS: [&str; 40] = [
     "0.0000", "00.0000", "0", "0.0", ".0", "-0.0000", "-0", "+0.0", "0D+99", "0.", "30.0000",
-    "30.", "30", "3E1", "3.0D+01", "1.5E+01", "59.9999", "0.0001", "0.00001", "0.75", "22.5",
-    "1.0D-09", "1D-9", "+7.5", ".5", "45.0000", "15", "599D-1",
+    "30.", "3.E1", "3.0D+01", "1.5E+01", "59.9999", "0.0001", "0.00001", "0.75", "22.5", "1.0D-09",
+    "1.D-9", "+7.5", ".5", "45.0000", "15.", "599.D-1", "300000", "3E5", "30", "150000", "0450000",
+    "+75E2", "225E+3", "599999", "599D+03", "1", "1D-1", "1D-5", "15D-05",
 ];
 
 /// Any angle up to so many degrees from zero, both sides of it; often a whole, half or quarter
@@ -100,9 +101,10 @@ fn integer_text(dice: &mut Dice, sign: &str, value: i64, width: usize) -> Vec<u8
 }
 
 fn seconds_text(dice: &mut Dice) -> Vec<u8> {
-    let text = match dice.size(0, 4) {
+    let text = match dice.size(0, 5) {
         0 | 1 => "0.0000".to_string(),
         2 => format!("{}.{:04}", dice.between(0, 59), dice.between(0, 9_999)),
+        3 => dice.between(0, 599_999).to_string(),
         _ => dice.pick(&SECONDS).to_string(),
     };
     hand::justified(dice, text.into_bytes(), SECONDS_WIDTH)

@@ -3,6 +3,7 @@
 
 use crate::block::{INTEGER_WIDTH, UNIT};
 use crate::dice::Dice;
+use crate::number::decimals_of;
 use crate::texts::spelling;
 
 /// Right-justified, most often plain, at times with zeros or a sign before it.
@@ -26,10 +27,12 @@ pub fn integer(dice: &mut Dice, value: i64) -> Vec<u8> {
 
 /// A number of billionths that a real can hold, in a field of `width` bytes.
 pub fn real(dice: &mut Dice, billionths: i64, width: usize) -> Vec<u8> {
-    let mut text = match dice.size(0, 3) {
+    let mut text = match dice.size(0, 5) {
         0 => standard(billionths, width),
         1 => plain(billionths),
-        _ => free(dice, billionths),
+        2 => without_point(dice, billionths, width),
+        3 => as_on_old_tapes(billionths, width),
+        _ => free(dice, billionths, width),
     };
     if text.len() > width {
         text = plain(billionths);
@@ -67,22 +70,37 @@ fn standard(billionths: i64, width: usize) -> Vec<u8> {
     format!("{sign}0.{digits:0<places$}{letter}{exponent:+03}").into_bytes()
 }
 
-/// No exponent, and a point only if something follows it.
+/// The same with `0.` left out: just as many digits as stand behind the point that is put in.
+fn as_on_old_tapes(billionths: i64, width: usize) -> Vec<u8> {
+    let (digits, _) = digits_and_power(billionths);
+    if digits.len() > decimals_of(width) {
+        return plain(billionths);
+    }
+    let mut text = standard(billionths, width);
+    text.retain(|&byte| byte != b'.');
+    text.remove(minus(billionths).len());
+    text
+}
+
+/// No exponent, and a point also if nothing follows it: `30.` is 30 in a field of any width.
 fn plain(billionths: i64) -> Vec<u8> {
     let (whole, fraction) = (
         billionths.unsigned_abs() / UNIT as u64,
         billionths.unsigned_abs() % UNIT as u64,
     );
-    let sign = minus(billionths);
-    if fraction == 0 {
-        return format!("{sign}{whole}").into_bytes();
-    }
-    let text = format!("{sign}{whole}.{fraction:09}");
+    let text = format!("{}{whole}.{fraction:09}", minus(billionths));
     text.trim_end_matches('0').as_bytes().to_vec()
 }
 
+/// 30 is `30000000` or `3E7` in a spacing.
+fn without_point(dice: &mut Dice, billionths: i64, width: usize) -> Vec<u8> {
+    let (digits, power) = digits_and_power(billionths);
+    let number = spelling::without_point(dice, digits.as_bytes(), power, width);
+    [minus(billionths).as_bytes(), &number].concat()
+}
+
 /// Zeros at either end, a point anywhere, any exponent that makes up for it.
-fn free(dice: &mut Dice, billionths: i64) -> Vec<u8> {
+fn free(dice: &mut Dice, billionths: i64, width: usize) -> Vec<u8> {
     let (mut digits, mut power) = digits_and_power(billionths);
     if billionths == 0 {
         power = dice.between(-99, 99);
@@ -101,7 +119,7 @@ fn free(dice: &mut Dice, billionths: i64) -> Vec<u8> {
         _ => "-",
     };
     let mut text = sign.as_bytes().to_vec();
-    text.extend(spelling::unsigned(dice, digits.as_bytes(), power));
+    text.extend(spelling::unsigned(dice, digits.as_bytes(), power, width));
     text
 }
 

@@ -2,8 +2,11 @@
 //! has compared too little.
 
 use crate::block::{Record, BLOCK_LENGTH, HUNDREDTH, UNIT};
+use crate::family::USGS;
+use crate::kept::blocks_of;
 use crate::lister::Outcome;
 use crate::meaning::{self, Block, Refusal, Sheet};
+use crate::pointless;
 use crate::record_a;
 
 type OfSheets = (&'static str, fn(&Sheet) -> bool);
@@ -79,7 +82,16 @@ pub fn names() -> Vec<String> {
         names.extend(kinds.iter().map(|kind| refused_name(record, *kind)));
     }
     names.extend(CLOSING.map(closing_name));
+    for record in [Record::Header, Record::ProfileStart] {
+        names.extend(pointless::taken(USGS, record));
+    }
+    names.extend([7, 8, 10, 11].map(pointless_name));
     names
+}
+
+/// The real at the byte named has no point.
+fn pointless_name(kind: u32) -> String {
+    format!("no point, refused {kind}")
 }
 
 fn refused_name(record: &str, kind: u32) -> String {
@@ -97,19 +109,37 @@ pub fn shown(input: &[u8], cells: usize, outcome: &Outcome) -> Vec<String> {
         .map(<[u8]>::to_vec)
         .collect();
     match outcome {
-        Outcome::Listed(sheet) => shown_by_sheet(sheet, cells),
+        Outcome::Listed(sheet) => shown_by_sheet(sheet, &blocks, cells),
         Outcome::Unfinished(taken) => vec![shown_by_end(&blocks[..*taken])],
         Outcome::Refused(refusal) => shown_by_refusal(&blocks, cells, *refusal),
     }
 }
 
-fn shown_by_sheet(sheet: &Sheet, cells: usize) -> Vec<String> {
+fn shown_by_sheet(sheet: &Sheet, blocks: &[Block], cells: usize) -> Vec<String> {
     let held = LISTED.iter().filter(|(_, holds)| holds(sheet));
     let mut names: Vec<String> = held.map(|&(name, _)| name.to_string()).collect();
     if sheet.header.cells() == cells {
         names.push("just the cells lent".to_string());
     }
+    names.extend(taken_without_point(Record::Header, &blocks[0]));
+    let mut first = 1;
+    for profile in &sheet.profiles {
+        names.extend(taken_without_point(Record::ProfileStart, &blocks[first]));
+        first += blocks_of(profile.length as i64) as usize;
+    }
+    names.sort_unstable();
+    names.dedup();
     names
+}
+
+fn taken_without_point(record: Record, block: &Block) -> Vec<String> {
+    pointless::shown(USGS, record, block, (0, 0))
+}
+
+/// Whether the real that a refusal names has no point.
+fn refused_without_point(record: Record, block: &Block, refusal: Refusal) -> bool {
+    let fault = (refusal.kind, refusal.byte);
+    !pointless::shown(USGS, record, block, fault).is_empty()
 }
 
 /// What the blocks before a refusal, or before an end, mean; None if there are none.
@@ -134,7 +164,7 @@ fn shown_by_end(blocks: &[Block]) -> String {
 
 fn shown_by_refusal(blocks: &[Block], cells: usize, refusal: Refusal) -> Vec<String> {
     if refusal.kind == 11 {
-        return vec![closing_name(refusal.byte)];
+        return closing_names(blocks, refusal);
     }
     let number = refusal.block as usize;
     let before = sheet_of(&blocks[..number]);
@@ -151,6 +181,24 @@ fn shown_by_refusal(blocks: &[Block], cells: usize, refusal: Refusal) -> Vec<Str
         4 => names.push(complete_name(before).to_string()),
         12 => names.extend(too_large_names(blocks, cells)),
         kind => names.extend(record_name(awaited, kind)),
+    }
+    if let (Some(record), Some(block)) = (awaited, blocks.get(number)) {
+        if refused_without_point(record, block, refusal) {
+            names.push(pointless_name(refusal.kind));
+        }
+    }
+    names
+}
+
+/// The block named is block 0 or a profile's first.
+fn closing_names(blocks: &[Block], refusal: Refusal) -> Vec<String> {
+    let record = match refusal.block {
+        0 => Record::Header,
+        _ => Record::ProfileStart,
+    };
+    let mut names = vec![closing_name(refusal.byte)];
+    if refused_without_point(record, &blocks[refusal.block as usize], refusal) {
+        names.push(pointless_name(refusal.kind));
     }
     names
 }

@@ -44,8 +44,8 @@ pub fn near_a_billionth(dice: &mut Dice, visit: &mut Visit) {
     }
 }
 
-/// Mantissas over 64 bits: round ones that an exponent brings back into range, and
-/// ones that would look small and good if their upper bits were lost.
+/// Mantissas over 64 bits: round ones, with a point or without, that an exponent brings back into
+/// range, and ones that would look small and good if their upper bits were lost.
 pub fn past_sixty_four_bits(dice: &mut Dice, visit: &mut Visit) {
     for _ in 0..40_000 {
         let text = round_mantissa(dice);

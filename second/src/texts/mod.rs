@@ -3,6 +3,7 @@
 
 mod damage;
 mod limits;
+mod pointless;
 pub mod spelling;
 mod sweep;
 
@@ -59,6 +60,14 @@ pub const FAMILIES: &[Family] = &[
     Family {
         name: "zeros",
         make: limits::zeros,
+    },
+    Family {
+        name: "without a point, all through",
+        make: pointless::every_length_and_exponent,
+    },
+    Family {
+        name: "without a point, at the limits",
+        make: pointless::at_the_limits,
     },
     Family {
         name: "damaged integers",

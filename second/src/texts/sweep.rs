@@ -2,11 +2,11 @@
 
 use super::{Visit, ALPHABET, LONGEST_TEXT};
 use crate::dice::Dice;
-use crate::examples::{INTEGERS, REALS};
+use crate::examples::{INTEGERS, POINTLESS_REALS, REALS};
 
 /// Every example, alone and with every number of blanks on either side.
 pub fn padded_examples(_: &mut Dice, visit: &mut Visit) {
-    for (text, _, _) in INTEGERS.iter().chain(REALS) {
+    for (text, _, _) in INTEGERS.iter().chain(REALS).chain(POINTLESS_REALS) {
         let room = LONGEST_TEXT.saturating_sub(text.len());
         for left in 0..=room {
             for right in 0..=room - left {

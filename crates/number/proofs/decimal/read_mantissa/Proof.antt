@@ -3,9 +3,10 @@ use borrow.Author.Needs.{needs}
 use mathlib.Core.Path.{_≡_, sym, _∙_, ap, ap₂}
 use native.Mathlib.Omega.{arith}
 use lib.ListN.{length, drop, length-append}
-use Rattle.number.specs.Bytes.{isPoint, isDigit, pastOne, pastAll, digits}
+use Rattle.number.specs.Bytes.{isPoint, isDigit, starts, pastOne, pastAll, digits}
 use Rattle.number.specs.Real.{fractionPart}
 use Rattle.number.specs.Steps.{none, keptAll}
+use Rattle.number.proofs.Places.{one-stands}
 use Rattle.number.proofs.Runs.{run-length, kept-append}
 use Rattle.number.proofs.decimal.read_mantissa.Statement.{statement}
 use Rattle.number.proofs.decimal.read_mantissa.Tie as tie
@@ -19,22 +20,19 @@ past-point-requires c κs = search needs
 keep-digits-requires-2 : tie.Need-keep-digits-requires-2
 keep-digits-requires-2 c κs = search needs
 
+sub-t10 : tie.Need-sub-t10
+sub-t10 c = search needs
+
 sub-t11 : tie.Need-sub-t11
 sub-t11 c = search needs
 
-sub-t12 : tie.Need-sub-t12
-sub-t12 c = search needs
-
-add-t13 : tie.Need-add-t13
-add-t13 c = search needs
-
-sub-t14 : tie.Need-sub-t14
-sub-t14 c = search needs
+add-t12 : tie.Need-add-t12
+add-t12 c = search needs
 
 returns : tie.Need-returns
 returns c =
     let b = c .before in
-    let f = b .before .before in
+    let f = b .before in
     let a = f .before in
     let s = a .before .before .args .s .now in
     let from = a .before .before .args .from in
@@ -57,9 +55,11 @@ returns c =
             ap (λ l. length (digits l)) point,
             length-append (digits (drop from s)) (digits (fractionPart (drop from s))),
           );
-      places =
+      pointed =
+          one-stands isPoint s (a .keep-digits .result .next) (f .past-point .result) rf ∙ ap (starts isPoint) (ra .past .is);
+      order = rb .past .onward;
+      standing =
           sym (run-length s (f .past-point .result) (b .keep-digits2 .result .next) (rb .past)) ∙ ap (λ l. length (digits l)) point;
-      narrow = omega arith;
       kept =
           rb .kept
           ∙ ap₂ keptAll (ra .kept) (ap digits point)
@@ -75,8 +75,7 @@ read-mantissa-spec =
     keep-digits-requires
     past-point-requires
     keep-digits-requires-2
+    sub-t10
     sub-t11
-    sub-t12
-    add-t13
-    sub-t14
+    add-t12
     returns)
