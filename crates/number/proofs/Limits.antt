@@ -1,7 +1,7 @@
 -- What a real that reads is bound to: its size is below 10 ^ 18 billionths and has at most 15 significant digits; the tests of `billionths` say so.
 -- And an integer, whether it reads or not, to six digits.
 use mathlib.Core.Bool.{true, Bool, false}
-use mathlib.Core.Path.{_≡_}
+use mathlib.Core.Path.{_≡_, refl}
 use Prim.Native.Nat.{_^_, _<_, _≤_, ℕ, _+_, _*_, _/_, _%_}
 use lib.IntN.{ℤ, natAbs}
 use native.Mathlib.Nat.{div-lt-iff-lt-mul, lt-of-lt-of-le}
@@ -16,8 +16,9 @@ use Rattle.laws.proofs.Integers.{signed-size}
 use Rattle.laws.proofs.Tens.{ten-pos, ten-up}
 use Rattle.laws.proofs.Tests.{and-second, by-test}
 use Rattle.number.specs.Real.{billionths, real, realForm, mantissaDigits, up, down}
-use Rattle.number.specs.Bytes.{isBlank, isSign, isDigit, pastOne, pastAll, digits, number}
+use Rattle.number.specs.Bytes.{isBlank, isSign, isDigit, starts, pastOne, pastAll, digits, number}
 use Rattle.number.specs.Integer.{unsignedPart, saysMinus, integer, integerForm, integerValue}
+use Rattle.number.proofs.Places.{one-length}
 use Rattle.number.proofs.GrammarParts.{digits-every}
 use Rattle.number.proofs.Runs.{number-below}
 
@@ -89,8 +90,7 @@ module _ (s : List ℕ) (z : real s .kind ≡ 0) where
 -- ---- integers: no more digits than bytes
 
 past-one-short : (is : ℕ → Bool) (s : List ℕ) → length (pastOne is s) ≤ length s
-past-one-short is [] = omega arith
-past-one-short is (c ∷ s) = by-test (is c) (λ e. rw e (omega arith)) (λ e. rw e (omega arith))
+past-one-short is s = omega (arith, one-length is s (starts is s) refl)
 
 past-all-short : (is : ℕ → Bool) (s : List ℕ) → length (pastAll is s) ≤ length s
 past-all-short is [] = omega arith

@@ -42,7 +42,7 @@ module _ (is : ℕ → Bool) (s : List ℕ) (i : ℕ) where
   all-end k = rw (drop-of-length-le s k)
 
 -- past one such byte, if there is one: the place moves on exactly where it stands
-one-length : (is : ℕ → Bool) (l : List ℕ) (b : Bool) → starts is l ≡ b → length (pastOne is l) + cond b 1 0 ≡ length l
+pub one-length : (is : ℕ → Bool) (l : List ℕ) (b : Bool) → starts is l ≡ b → length (pastOne is l) + cond b 1 0 ≡ length l
 one-length is [] true e = clash (sym e)
 one-length is [] false e = refl
 one-length is (c ∷ l) true e = rw e (omega arith)

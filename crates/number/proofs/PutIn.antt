@@ -1,6 +1,6 @@
 -- 02, request 4, in its own words: a real field without a point means what it means with zeros filled in front and a point before its last d
 -- digits, at whatever length it has then; and the length says nothing where a point stands. Carried by this: zeros in front are no other number.
-use mathlib.Core.Bool.{Bool, true, false}
+use mathlib.Core.Bool.{Bool, true}
 use mathlib.Core.List.{List, [], _∷_, _++_, append-nil, append-assoc}
 use mathlib.Core.Logic.{_↔_}
 use mathlib.Core.Path.{_≡_, _∙_, refl, sym, ap}
@@ -8,13 +8,14 @@ use Prim.Native.Nat.{ℕ, zero, suc, _-_, _≤_}
 use native.Mathlib.Omega.{arith}
 use lib.IntN.{ℤ}
 use lib.ListN.{length, replicate, take, drop, take-append-drop, length-append, length-replicate, length-drop}
+use Rattle.laws.specs.Sign.{_and_}
 use Rattle.laws.specs.Texts.{every}
 use Rattle.laws.proofs.Tests.{and-first, and-second, and-both, clash}
 use Rattle.number.specs.Bytes.{isDigit, isEmpty, number}
-use Rattle.number.specs.Grammar.{RealText, RealMeans, Fraction, filled, pointBeforeLast, withPoint}
+use Rattle.number.specs.Grammar.{RealText, RealMeans, Fraction, filled, withPoint}
 use Rattle.number.specs.Grammar.Fraction.{noPoint, pointed}
 use Rattle.number.specs.Real.{realValue, hasPoint, assumed}
-use Rattle.number.proofs.Scale.{every-append}
+use Rattle.number.proofs.Scale.{every-append, every-repeated}
 use Rattle.number.proofs.Reals.{assumed-between}
 use Rattle.number.proofs.Grammar.{same-means}
 
@@ -25,19 +26,6 @@ point-stands minus bytes other u e = rw e
 zeros-number : (k : ℕ) (xs : List ℕ) → number 0 (replicate k 48 ++ xs) ≡ number 0 xs
 zeros-number zero xs = refl
 zeros-number (suc k) xs = zeros-number k xs
-
-zeros-digits : (k : ℕ) → every isDigit (replicate k 48) ≡ true
-zeros-digits zero = refl
-zeros-digits (suc k) = zeros-digits k
-
-every-front : (is : ℕ → Bool) (xs ys : List ℕ) → every is (xs ++ ys) ≡ true → every is xs ≡ true
-every-front is [] ys e = refl
-every-front is (c ∷ xs) ys e =
-    and-both (and-first (is c) (every is (xs ++ ys)) e) (every-front is xs ys (and-second (is c) (every is (xs ++ ys)) e))
-
-every-back : (is : ℕ → Bool) (xs ys : List ℕ) → every is (xs ++ ys) ≡ true → every is ys ≡ true
-every-back is [] ys e = e
-every-back is (c ∷ xs) ys e = every-back is xs ys (and-second (is c) (every is (xs ++ ys)) e)
 
 module _ (d : ℕ) (xs : List ℕ) where
   abbrev whole : List ℕ
@@ -55,8 +43,12 @@ module _ (d : ℕ) (xs : List ℕ) where
   fraction-length : length fraction ≡ d
   fraction-length = omega (arith, length-drop (length (filled d xs) - d) (filled d xs), enough)
 
-  parts-digits : every isDigit xs ≡ true → every isDigit (whole ++ fraction) ≡ true
-  parts-digits h = rw parted (every-append isDigit (replicate (d - length xs) 48) xs (zeros-digits (d - length xs)) h)
+  parts-digits : every isDigit xs ≡ true → (every isDigit whole and every isDigit fraction) ≡ true
+  parts-digits h =
+      sym (every-append isDigit whole fraction)
+      ∙ ap (every isDigit) parted
+      ∙ every-append isDigit (replicate (d - length xs) 48) xs
+      ∙ and-both (every-repeated isDigit 48 refl (d - length xs)) h
 
   parts-number : number 0 (whole ++ fraction) ≡ number 0 xs
   parts-number = ap (number 0) parted ∙ zeros-number (d - length xs) xs
@@ -85,8 +77,8 @@ point-put-in {s} t none =
       text = ap (λ r. t .blanks ++ (t .sign ++ r)) (append-assoc (whole d xs) (46 ∷ fraction d xs) (t .exponent ++ t .rest));
       blank = t .blank;
       signs = t .signs;
-      digit = every-front isDigit (whole d xs) (fraction d xs) all;
-      fractions = pointed (fraction d xs) (every-back isDigit (whole d xs) (fraction d xs) all);
+      digit = and-first (every isDigit (whole d xs)) (every isDigit (fraction d xs)) all;
+      fractions = pointed (fraction d xs) (and-second (every isDigit (whole d xs)) (every isDigit (fraction d xs)) all);
       some = omega (arith, length-append (whole d xs) (fraction d xs), fraction-length d xs, assumed-between (length s) .0);
       spells = parts-number d xs ∙ said ∙ t .spells;
       decimals = fraction-length d xs ∙ (rw none at (t .decimals));

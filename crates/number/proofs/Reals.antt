@@ -7,7 +7,7 @@ use Prim.Native.Nat.{ℕ, _≤_, _+_, _<_, _-_}
 use lib.ListN.{length, drop, length-drop}
 use native.Mathlib.Nat.{add-zero}
 use native.Mathlib.Omega.{arith}
-use Rattle.laws.proofs.Tests.{and-fails-first, and-fails-second, by-test}
+use Rattle.laws.proofs.Tests.{and-fails-first, and-fails-second, and-both, by-test}
 use Rattle.number.specs.Bytes.{isBlank, isMinus, starts, pastAll, isEmpty, digits, isDigit, number}
 use Rattle.number.specs.Integer.{unsignedPart, refused}
 use Rattle.number.specs.Grammar.{raised, sunk}
@@ -75,8 +75,8 @@ module _ (s : List ℕ) (u : ℕ) (is : drop u s ≡ unsignedPart s) (m : Mantis
       kept-leads =
           subst⁻¹ (Leads (number 0 (mantissaDigits (unsignedPart s)))) (ma .kept ∙ ap (λ l. keptAll none (mantissaDigits l)) is)
           (leads-all 0 none (mantissaDigits (unsignedPart s))
-          (every-append isDigit (digits (unsignedPart s)) (digits (fractionPart (unsignedPart s))) (digits-every (unsignedPart s))
-          (digits-every (fractionPart (unsignedPart s))))
+          (every-append isDigit (digits (unsignedPart s)) (digits (fractionPart (unsignedPart s)))
+          ∙ and-both (digits-every (unsignedPart s)) (digits-every (fractionPart (unsignedPart s))))
           leads-none)
 
       size-is : p .size ≡ powerSize (pastMantissa (unsignedPart s))

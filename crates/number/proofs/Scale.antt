@@ -9,12 +9,13 @@ use native.Mathlib.Nat.{mul-assoc, pow-suc, pow-zero, mul-le-mul-left, mul-mod-l
 use native.Mathlib.Numerals.{add-one}
 use mathlib.Core.List.{List, [], _∷_, _++_}
 use native.Mathlib.Decide.{decLe}
+use lib.ListN.{replicate}
 use lib.Arith.{digits-mod}
 use lib.Pow.{pow-add}
 use Rattle.laws.specs.Texts.{every}
 use Rattle.laws.specs.Sign.{signed, _and_}
 use Rattle.laws.specs.Digits.{short}
-use Rattle.laws.proofs.Tests.{and-first, and-second, clash, and-fails-first, and-both}
+use Rattle.laws.proofs.Tests.{and-first, and-second, clash, and-fails-first, and-both, by-test}
 use Rattle.laws.proofs.Tens.{ten-pos, ten-up}
 use Rattle.laws.proofs.Shorts.{FewDigits, few-short, short-few}
 use Rattle.number.specs.Steps.{Leads, none, keptOne, keptAll, readingOf, upOf, downOf}
@@ -395,7 +396,10 @@ down-small head more d n h e = go more refl (eqb (head % 10 ^ d) 0) refl
         let z : head / 10 ^ d ≡ n = cc in
         omega (arith, div-le-self head (10 ^ d))
 
-pub every-append : (is : ℕ → Bool) (xs ys : List ℕ) → every is xs ≡ true → every is ys ≡ true → every is (xs ++ ys) ≡ true
-every-append is [] ys p q = q
-every-append is (c ∷ xs) ys p q =
-    and-both (and-first (is c) (every is xs) p) (every-append is xs ys (and-second (is c) (every is xs) p) q)
+pub every-append : (is : ℕ → Bool) (xs ys : List ℕ) → every is (xs ++ ys) ≡ (every is xs and every is ys)
+every-append is [] ys = refl
+every-append is (c ∷ xs) ys = let h = every-append is xs ys in by-test (is c) (λ e. rw e h) (λ e. rw e)
+
+pub every-repeated : (is : ℕ → Bool) (c : ℕ) → is c ≡ true → (k : ℕ) → every is (replicate k c) ≡ true
+every-repeated is c h zero = refl
+every-repeated is c h (suc k) = and-both h (every-repeated is c h k)

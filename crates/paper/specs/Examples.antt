@@ -1,10 +1,9 @@
 -- Document 01, "Examples on the edge": the examples marked *, one table. A row says what is asked and what the paper tells.
-use Prim.Native.Nat.{ℕ, _/_, _^_, _*_, _-_}
+use Prim.Native.Nat.{ℕ, _/_, _^_, _*_}
 use Prim.Native.String.{String}
 use lib.IntN.{ℤ, pos, _*ℤ_, negsuc, negℤ}
 use mathlib.Core.Path.{_≡_}
-use mathlib.Core.List.{List, [], _∷_, _++_}
-use lib.ListN.{length, replicate}
+use mathlib.Core.List.{List, [], _∷_}
 use Rattle.laws.specs.Texts.{bytes}
 use Rattle.number.specs.declared.Reading.{Reading}
 use Rattle.number.specs.Integer.{integer, read, refused}
@@ -12,6 +11,7 @@ use Rattle.number.specs.Real.{real, assumed}
 use Rattle.number.specs.Grammar.{pointBeforeLast}
 use Rattle.lattice.specs.Lattice.{firstMultiple, lastMultiple}
 use Rattle.ground.specs.Posts.{blocksFor, height}
+use Rattle.meaning.specs.PaperSheet.{field}
 
 pub data Example : Type 0 where
   integerField : String → Reading → Example
@@ -23,14 +23,10 @@ pub data Example : Type 0 where
   postsTake : ℕ → ℕ → Example
   postFills : ℤ → ℕ → ℤ → ℤ → Example
 
--- a text at the right of its field
-abbrev pub atRight : ℕ → String → List ℕ
-atRight width text = replicate (width - length (bytes text)) 32 ++ bytes text
-
 abbrev pub Holds : Example → Type 0
 Holds (integerField text told) = integer (bytes text) ≡ told
 Holds (realField text told) = real (bytes text) ≡ told
-Holds (realIn width text told) = real (atRight width text) ≡ told
+Holds (realIn width text told) = real (field width text) ≡ told
 Holds (pointGoes width digits told) = pointBeforeLast (assumed width) (bytes digits) ≡ bytes told
 Holds (latticeStarts corner spacing told) = firstMultiple corner spacing *ℤ pos spacing ≡ told
 Holds (latticeEnds corner spacing told) = lastMultiple corner spacing *ℤ pos spacing ≡ told

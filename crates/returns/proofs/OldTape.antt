@@ -14,24 +14,17 @@ use Rattle.heading.specs.Heading.{headerOf}
 use Rattle.sheet.specs.RecordA.{recordOf, usgsFront, back}
 use Rattle.numerals.specs.Numerals.{spell, count}
 use Rattle.spell.specs.Spell.{integerText, realText}
-use Rattle.meaning.specs.PaperSheet.{paperA, paperCells, field, words, times}
+use Rattle.meaning.specs.PaperSheet.{paperA, paperCells, field, words}
 use Rattle.written.specs.Cells.{canSend, sendable, voidsBefore, upToLast, profileCells, startAt}
 use Rattle.written.specs.Sending.{objection, sheetObjection, blockObjection}
 use Rattle.written.specs.Blocks.{piecesBy, blockZero}
 
+-- integers, texts and the fifteen reals, of which only the form counts, as the paper's sheet has them
 unfoldable pub tapeA : List ℕ
 tapeA =
     joined
-    (words 144 "PAPER SHEET"
-    ∷ field 6 "1"
-    ∷ field 6 "1"
-    ∷ field 6 "1"
-    ∷ field 6 "17"
-    ∷ times 15 (field 24 "0.000000000000000D+00")
-    ∷ field 6 "2"
-    ∷ field 6 "2"
-    ∷ field 6 "4"
-    -- 15 digits behind the point in 24 bytes
+    (stretch 1 546 paperA
+    -- corners, extremes and angle: 15 digits behind the point in 24 bytes
     ∷ field 24 "600000000000000000"
     ∷ field 24 "900D+15"
     ∷ field 24 "600000000000000D+03"
@@ -43,14 +36,12 @@ tapeA =
     ∷ field 24 "9D+15"
     ∷ field 24 "12000000000000000"
     ∷ field 24 "0"
-    ∷ field 6 "0"
-    -- 6 in 12 bytes
+    ∷ stretch 811 6 paperA
+    -- spacings: 6 in 12 bytes
     ∷ field 12 "300000E+02"
     ∷ field 12 "30000000"
     ∷ field 12 "1E6"
-    ∷ field 6 "1"
-    ∷ field 6 "2"
-    ∷ words 160 ""
+    ∷ stretch 853 172 paperA
     ∷ [])
 
 pub tape-means : headerOf tapeA ≡ headerOf paperA
@@ -58,7 +49,7 @@ unfolding tapeA paperA headerOf latticeOf integer real billionths places short
 tape-means = refl
 
 pub tape-fine : blockObjection tapeA paperCells 0 1024 ≡ objection 0 0
-unfolding blockObjection sheetObjection recordOf usgsFront back headerOf latticeOf integer real billionths places short tapeA canSend sendable startAt profileCells upToLast voidsBefore
+unfolding blockObjection sheetObjection recordOf usgsFront back headerOf latticeOf integer real billionths places short tapeA paperA canSend sendable startAt profileCells upToLast voidsBefore
 tape-fine = refl
 
 -- "a template's spacing is read anew and rewritten": and so is every other number of it
@@ -67,5 +58,5 @@ unfolding tapeA paperA headerOf latticeOf integer real billionths places short b
 tape-sent = refl
 
 pub spacing-sent : stretch 817 12 (blockZero tapeA (headerOf tapeA) paperCells) ≡ bytes "0.300000E+02"
-unfolding tapeA headerOf latticeOf integer real billionths places short blockZero piecesBy integerText realText spell count
+unfolding tapeA paperA headerOf latticeOf integer real billionths places short blockZero piecesBy integerText realText spell count
 spacing-sent = refl
