@@ -9,42 +9,10 @@ cd "$(dirname "$0")/.."
 . .ci/setup
 need gcc gcc
 need valgrind valgrind
-home=${RATTLE_HOME:-$(dirname "$(dirname "$(readlink -f "$(command -v rt)")")")}
-tools=$home/on/$(uname -m)/toolchain
-room=$(mktemp -d)
-chmod 755 "$room" # rt runs a program as nobody
-trap 'rm -rf "$room"' EXIT
-
-# rt builds for x86-64. On another processor a crate is built again in a copy by a clang that keeps the module which rattle hands it,
-# and that module is compiled for this processor: the same code below the proof, another back end of the same clang.
-elsewhere() {
-    local copy=$room/copy kit=$room/kit own=on/$(uname -m)
-    mkdir -p "$copy/target" "$kit/$own/toolchain/bin"
-    ln -s "$home"/[!o]* "$kit/"
-    ln -s "$home/$own"/[!t]* "$kit/$own/"
-    ln -s "$tools/lib" "$kit/$own/toolchain/lib"
-    ln -s "$tools/bin"/[!c]* "$kit/$own/toolchain/bin/"
-    { echo '#!/bin/sh'; echo "cp module.bc '$room/module.bc'"; echo "exec '$tools/bin/clang' \"\$@\""; } >"$kit/$own/toolchain/bin/clang"
-    chmod +x "$kit/$own/toolchain/bin/clang"
-    cp -r crates crates.txt "$copy/" && cp -r target/rlib target/stamp "$copy/target/" && rm -r "$copy/target/stamp/survey"
-}
-
-object_elsewhere() { # OBJECT OPTION WORDS OF RT..
-    (cd "$room/copy" && RATTLE_HOME=$room/kit rt "${@:3}" >"$room/log" 2>&1) || { cat "$room/log"; exit 1; }
-    "$tools/bin/clang" -O3 "$2" -Wno-override-module -c -x ir "$room/module.bc" -o "$room/$1" 2>/dev/null
-}
-
-rt check survey >/dev/null
-rt staticlib desk >"$room/log" 2>&1 || { cat "$room/log"; exit 1; }
-if [ "$(uname -m)" = x86_64 ]; then
-    cp target/bin/survey "$room/survey"
-    cp target/staticlib/libdesk.a "$room/desk"
-else
-    elsewhere
-    object_elsewhere survey.o -fPIE check survey
-    gcc "$room/survey.o" -o "$room/survey"
-    object_elsewhere desk -fPIC staticlib desk
-fi
+. bench/native.sh
+quietly rt check survey desk
+native_survey
+native_desk
 warned=(-O2 -Wall -Wextra -Werror)
 many=-DFETCH=65536
 gcc "${warned[@]}" bench/sheet.c -o "$room/sheet"
@@ -67,8 +35,6 @@ if command -v gdal-config >/dev/null; then
     gcc -O2 $(gdal-config --cflags) bench/gdal.c $(gdal-config --libs) -o "$room/gdal"
     gdal=yes
 fi
-
-ratio() { awk -v a="$1" -v b="$2" 'BEGIN { printf "%.2f", a / b }'; }
 
 # The best of 21 turns for each program in microseconds from start to end, the programs by turns.
 declare -A best

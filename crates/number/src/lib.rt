@@ -23,42 +23,39 @@ const WRONG_LENGTH: u32 = 1;
 
 const WRONG_FORM: u32 = 6;
 
-const TENS: [u64; 19] = [
-    1,
-    10,
-    100,
-    1000,
-    10000,
-    100000,
-    1000000,
-    10000000,
-    100000000,
-    1000000000,
-    10000000000,
-    100000000000,
-    1000000000000,
-    10000000000000,
-    100000000000000,
-    1000000000000000,
-    10000000000000000,
-    100000000000000000,
-    1000000000000000000,
-];
-
 fn refuse(kind: u32) -> Reading
     ensures { λ r. ⌜ r ≡ refused kind ⌝ }
 {
     Reading { kind, value: 0 }
 }
 
-// A power of ten, for the reading here and the writing above; 0 past the greatest that they need.
+// A power of ten, for the reading here and the writing above; 0 past the greatest that they need. Arms and no array: an array is laid out on the
+// stack whenever one of its numbers is asked for.
 pub fn ten_to(k: usize) -> u64
     ensures { λ r. ⌜ r ≡ tenTo k ⌝ }
 {
-    if 18 < k {
-        return 0;
+    match k {
+        0 => 1,
+        1 => 10,
+        2 => 100,
+        3 => 1000,
+        4 => 10000,
+        5 => 100000,
+        6 => 1000000,
+        7 => 10000000,
+        8 => 100000000,
+        9 => 1000000000,
+        10 => 10000000000,
+        11 => 100000000000,
+        12 => 1000000000000,
+        13 => 10000000000000,
+        14 => 100000000000000,
+        15 => 1000000000000000,
+        16 => 10000000000000000,
+        17 => 100000000000000000,
+        18 => 1000000000000000000,
+        _ => 0,
     }
-    TENS[k]
 }
 
 // A number without its sign. Raised by one before it is turned, so that the least i64 has a size too.

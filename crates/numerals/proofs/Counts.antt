@@ -1,7 +1,7 @@
 -- How many digits a number is written with: the count from the top down, a step at a time, what it bounds, and the test for few of them.
 use mathlib.Core.Path.{_≡_, refl, sym, _∙_, ap}
 use Prim.Native.Nat.{ℕ, zero, suc, _-_, _^_, _≤_, _<_, _+_, _%_}
-use borrow.Author.Tests.{eq-eqb, ne-eqb, le-ltb, lt-ltb, ltb-true, eqb-true, eqb-false, leb-true, leb-false}
+use borrow.Author.Tests.{eq-eqb, ne-eqb, le-ltb, lt-ltb, ltb-true, ltb-false, eqb-true, eqb-false, leb-true, leb-false, le-leb, lt-leb}
 use native.Mathlib.Omega.{arith}
 use lib.Dec.{ltb, leb, eqb}
 use mathlib.Core.Bool.{true}
@@ -99,6 +99,26 @@ module _ (none k n : ℕ) where
               let a : j ≤ places k n - 1 = omega arith in
               let p : 0 < n = omega (arith, some) in
               omega (arith, ten-up a, places-below k n p (omega arith))
+
+-- j digits are enough exactly for the numbers below that power of ten; zero needs one
+pub enough : (k j n : ℕ) → 0 < k → n < 10 ^ k → 0 < n + j → ltb n (10 ^ j) ≡ leb (count 1 k n) j
+enough k j n p h some =
+    by-test (ltb n (10 ^ j)) (λ e. e ∙ sym (le-leb (count 1 k n) j (few (ltb-true n (10 ^ j) e))))
+    (λ e. e ∙ sym (lt-leb (count 1 k n) j (many (ltb-false n (10 ^ j) e))))
+  where
+    one : (j : ℕ) → 0 < n + j → n < 10 ^ j → 1 ≤ j
+    one zero s b = absurd (omega arith)
+    one (suc j) s b = omega arith
+
+    few : n < 10 ^ j → count 1 k n ≤ j
+    few b =
+        by-test (leb j k) (λ e. count-small 1 k n j (one j some b) (leb-true j k e) b)
+        (λ e. omega (arith, leb-false j k e, count-most 1 k n p))
+
+    many : 10 ^ j ≤ n → j < count 1 k n
+    many b =
+        by-test (leb (count 1 k n) j) (λ e. absurd (omega (arith, ten-up (leb-true (count 1 k n) j e), count-above 1 k n h)))
+        (λ e. leb-false (count 1 k n) j e)
 
 -- all digits are among the first p, or the test asks
 pub short-all : (k p n : ℕ) → places k n ≤ p → short k p n ≡ true

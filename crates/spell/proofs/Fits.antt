@@ -1,9 +1,9 @@
 -- What fits its field: the tests taken apart, the lengths that follow, and the values that always fit.
-use mathlib.Core.Bool.{true}
-use mathlib.Core.Path.{_≡_, sym}
-use Prim.Native.Nat.{ℕ, _≤_, _+_, _^_, _<_, _*_, _/_, _%_}
-use borrow.Author.Tests.{leb-true, ltb-true, lt-ltb, le-leb}
-use lib.IntN.{ℤ, natAbs, pos}
+use mathlib.Core.Bool.{true, false}
+use mathlib.Core.Path.{_≡_, sym, _∙_, ap}
+use Prim.Native.Nat.{ℕ, _≤_, _+_, _-_, _^_, _<_, _*_, _/_, _%_}
+use borrow.Author.Tests.{leb-true, leb-false, ltb-true, lt-ltb, le-leb, lt-leb}
+use lib.IntN.{ℤ, natAbs, pos, negsuc}
 use lib.ListN.{length}
 use native.Mathlib.Omega.{arith}
 use lib.Dec.{leb, ltb}
@@ -11,12 +11,12 @@ use mathlib.Core.List.{List}
 use native.Mathlib.Nat.{div-add-mod', div-lt-iff-lt-mul}
 use Rattle.laws.specs.Digits.{short}
 use Rattle.laws.specs.Sign.{_and_}
-use Rattle.laws.proofs.Tests.{and-first, and-second, and-both}
+use Rattle.laws.proofs.Tests.{and-first, and-second, and-both, by-test}
 use Rattle.laws.proofs.Shorts.{few-short}
 use Rattle.laws.proofs.Tens.{ten-pos}
-use Rattle.numerals.specs.Numerals.{minus}
+use Rattle.numerals.specs.Numerals.{minus, count}
 use Rattle.numerals.proofs.Numerals.{minus-short}
-use Rattle.numerals.proofs.Counts.{count-small}
+use Rattle.numerals.proofs.Counts.{count-small, count-least, enough}
 use Rattle.number.specs.Real.{real}
 use Rattle.number.proofs.Limits.{real-limits}
 use Rattle.spell.specs.Spell.{wholeText, integerFits, integerText, decimal, realText, realFits}
@@ -30,6 +30,33 @@ integer-room width z h = leb-true (length (wholeText z)) width h
 pub integer-length : (width : ℕ) (z : ℤ) → integerFits width z ≡ true → length (integerText width z) ≡ width
 unfolding integerText
 integer-length width z h = justified-length width (wholeText z) (integer-room width z h)
+
+-- a number below zero has a size
+minus-size : (z : ℤ) → length (minus z) ≤ natAbs z
+minus-size (pos n) = rw (not-below n) (omega arith)
+minus-size (negsuc n) = omega arith
+
+-- a test of a sum is a test of what is left
+less-left : (a b c : ℕ) → a ≤ c → leb (a + b) c ≡ leb b (c - a)
+less-left a b c h =
+    by-test (leb b (c - a)) (λ e. le-leb (a + b) c (omega (arith, leb-true b (c - a) e)) ∙ sym e)
+    (λ e. lt-leb (a + b) c (omega (arith, leb-false b (c - a) e)) ∙ sym e)
+
+-- what fits, by its size alone: the digits that a minus leaves bytes for are enough
+pub fits-by-size : (width : ℕ) (z : ℤ) → 0 < width → natAbs z < 10 ^ 19
+    → ltb (natAbs z) (10 ^ (width - length (minus z))) ≡ integerFits width z
+unfolding integerFits
+fits-by-size width z some small =
+    let n = natAbs z in
+    let m = length (minus z) in
+    enough 20 (width - m) n (omega arith) (omega arith) (omega (arith, minus-size z))
+    ∙ sym (ap (λ (k : ℕ). leb k width) (whole-length z) ∙ less-left m (count 1 20 n) width (omega (arith, minus-short z)))
+
+-- a field of no bytes has room for no number
+pub nothing-fits : (z : ℤ) → natAbs z < 10 ^ 19 → integerFits 0 z ≡ false
+unfolding integerFits
+nothing-fits z small =
+    lt-leb (length (wholeText z)) 0 (omega (arith, whole-length z, count-least 1 20 (natAbs z) (omega arith) (omega arith)))
 
 pub record RealFits (digits width : ℕ) (z : ℤ) : Type 0 where
   pub modest : natAbs z < 10 ^ 18

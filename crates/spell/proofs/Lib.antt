@@ -2,6 +2,7 @@ pub mod Leading
 pub mod FirstDigits
 pub mod Pieces
 pub mod Texts
+pub mod FromRight
 pub mod Spelled
 pub mod Exponents
 pub mod Fits

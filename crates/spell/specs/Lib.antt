@@ -1,1 +1,2 @@
 pub mod Spell
+pub mod RightSteps

@@ -1,14 +1,17 @@
-// Number fields, written exactly: document 01, "Writing". A text is built in a scratch array, then placed at the field's right end.
+// Number fields, written exactly: document 01, "Writing". An integer's bytes go straight into the field, from the right; a real's text is built in
+// a scratch array, then placed at the field's right end.
 ghost use mathlib.Core.Bool.{cond};
 ghost use mathlib.Core.List.{_∷_, _++_};
 ghost use mathlib.Core.Path.{_≡_};
 ghost use Prim.Native.Nat.{_+_, _≤_, _<_, _^_};
-ghost use lib.Dec.{leb};
-ghost use lib.IntN.{natAbs};
+ghost use lib.Dec.{leb, ltb};
+ghost use lib.IntN.{natAbs, pos};
+ghost use lib.Signed.{ltZ};
 ghost use lib.ListN.{length, getD, replicate};
-ghost use Rattle.numerals.specs.Numerals.{spell};
+ghost use Rattle.numerals.specs.Numerals.{spell, numeral, minus};
 ghost use Rattle.numerals.specs.Pieces.{Puts};
-ghost use Rattle.spell.specs.Spell.{justified, wholeText, leading, powerText, decimal, integerText, integerFits, realText, realFits};
+ghost use Rattle.spell.specs.Spell.{justified, leading, powerText, decimal, integerText, integerFits, realText, realFits};
+ghost use Rattle.spell.specs.RightSteps.{FromRight, filledBefore};
 
 // Magnitudes of 10 ^ 9 and more are written by no real: here in billionths.
 const LIMIT: u64 = 1000000000000000000;
@@ -56,12 +59,70 @@ fn place(text: &[u8], field: &mut [u8]) -> bool
     true
 }
 
-fn put_whole(text: &mut [u8], value: i64) -> usize
-    requires { ⌜ 21 ≤ length (now text) ⌝ }
-    ensures { λ r. ⌜ Puts (now (text .entry)) 0 (wholeText value) (now (text .exit)) r ⌝ }
+// Whether so many digits are enough. No number of 64 bits with a sign has more than 19.
+fn are_enough(places: usize, size: u64) -> bool
+    requires { ⌜ size < 10 ^ 19 ⌝ }
+    ensures { λ r. ⌜ r ≡ ltb size (10 ^ places) ⌝ }
 {
-    let first = numerals::put_minus(text, 0, value);
-    numerals::put_number(text, first, number::size_of(value))
+    if 18 < places {
+        return true;
+    }
+    size < number::ten_to(places)
+}
+
+// Whether a minus and the digits have their bytes: asked before the first is put, since from the right one would find out too late.
+fn has_places(value: i64, width: usize) -> bool
+    ensures { λ r. ⌜ r ≡ integerFits width value ⌝ }
+{
+    if width == 0 {
+        return false;
+    }
+    let size = number::size_of(value);
+    if value < 0 {
+        return are_enough(width - 1, size);
+    }
+    are_enough(width, size)
+}
+
+// The digits from the right end of the field; returns where the first stands. One is put before it is asked for more, so that zero has one.
+fn put_from_right(n: u64, field: &mut [u8]) -> usize
+    requires { ⌜ length (numeral n) ≤ length (now field) ⌝ }
+    ensures { λ r. ⌜ FromRight (now (field .entry)) (numeral n) (now (field .exit)) r ⌝ }
+{
+    let mut at = field.len();
+    let mut rest = n;
+    let mut more = true;
+    while more {
+        at -= 1;
+        field[at] = ZERO + (rest % 10) as u8;
+        rest = rest / 10;
+        more = 0 < rest;
+    }
+    at
+}
+
+// The byte next to the digits.
+fn sign_of(value: i64) -> u8
+    ensures { λ r. ⌜ r ≡ cond (ltZ value (pos 0)) 45 32 ⌝ }
+{
+    if value < 0 {
+        return MINUS;
+    }
+    BLANK
+}
+
+// All that stands before the digits: a minus next to them if the number has one, blanks up to the field's first byte.
+fn fill_before(value: i64, at: usize, field: &mut [u8])
+    requires { ⌜ (length (minus value) ≤ at) × (at ≤ length (now field)) ⌝ }
+    ensures { λ _. ⌜ now (field .exit) ≡ filledBefore value at (now (field .entry)) ⌝ }
+{
+    let mut mark = sign_of(value);
+    let mut left = at;
+    while 0 < left {
+        field[left - 1] = mark;
+        mark = BLANK;
+        left -= 1;
+    }
 }
 
 // "Integers: right-justified .." False and the field as it was, where the number is too long for it.
@@ -69,9 +130,12 @@ pub fn write_integer(value: i64, field: &mut [u8]) -> bool
     ensures fits { λ r. ⌜ r ≡ integerFits (length (now (field .entry))) value ⌝ }
     ensures written { λ _. ⌜ now (field .exit) ≡ cond (integerFits (length (now (field .entry))) value) (integerText (length (now (field .entry))) value) (now (field .entry)) ⌝ }
 {
-    let mut text = [0u8; 24];
-    let end = put_whole(&mut text, value);
-    place(&text[0..end], field)
+    if !has_places(value, field.len()) {
+        return false;
+    }
+    let first = put_from_right(number::size_of(value), field);
+    fill_before(value, first, field);
+    true
 }
 
 // The first few of a size's digits, or all of them with zeros behind.

@@ -1,70 +1,93 @@
--- An integer written: what is put in the scratch is the whole text, and that is what is placed.
-use mathlib.Core.Path.{subst}
-use lib.IntN.{ℤ, natAbs}
-use lib.ListN.{replicate}
-use mir.Facts.{toZ-ofZ}
+-- An integer written: what fits has its digits at the right end, and before them its minus and blanks. That is the field's text (FromRight).
+use mathlib.Core.Bool.{true, false}
+use mathlib.Core.List.{List}
+use mathlib.Core.Path.{_≡_, refl, sym, _∙_, ap, subst}
+use Prim.Native.Nat.{ℕ}
 use borrow.Author.Needs.{needs}
+use borrow.Author.Tests.{not-true, not-false}
 use native.Mathlib.Omega.{arith}
-use Rattle.numerals.specs.Pieces.{Puts}
-use Rattle.numerals.proofs.Counts.{count-most}
-use Rattle.numerals.proofs.Numerals.{minus-short}
-use Rattle.numerals.proofs.Pieces.{front}
-use Rattle.spell.specs.Spell.{wholeText, integerText, integerFits}
-use Rattle.spell.proofs.Texts.{whole-length}
-use Rattle.spell.proofs.Pieces.{placed}
+use lib.IntN.{ℤ, natAbs}
+use lib.ListN.{length, length-append}
+use mir.Facts.{toZ-ofZ}
+use Rattle.numerals.specs.Numerals.{numeral, minus}
+use Rattle.spell.specs.RightSteps.{FromRight, filledBefore}
+use Rattle.spell.specs.Spell.{integerFits}
+use Rattle.spell.proofs.Fits.{integer-room}
+use Rattle.spell.proofs.FromRight.{minus-fits, digits-room, field-text}
 use Rattle.spell.proofs.write_integer.Statement.{statement}
 use Rattle.spell.proofs.write_integer.Tie as tie
 
-abbrev start : tie.After-put-whole → tie.Start
-start c = c .before .before .before
+abbrev start : tie.After-size-of → tie.Start
+start c = c .before .before .before .before
 
-built : (c : tie.After-put-whole)
-    → Puts (replicate 24 0) 0 (wholeText (start c .args .value)) (c .put-whole .last .0) (c .put-whole .result)
-built c =
-    subst (λ (z : ℤ). Puts (replicate 24 0) 0 (wholeText z) (c .put-whole .last .0) (c .put-whole .result))
-    (toZ-ofZ (start c .fits .value)) (c .put-whole .ensures)
+-- the verdict is of the number itself
+judged : (c : tie.After-has-places)
+    → c .has-places .result ≡ integerFits (length (c .before .before .args .field .now)) (c .before .before .args .value)
+judged c =
+    let s = c .before .before in
+    c .has-places .ensures ∙ ap (λ (z : ℤ). integerFits (length (s .args .field .now)) z) (toZ-ofZ (s .fits .value))
 
-slice-aggregate-put-whole : tie.Need-slice-aggregate-put-whole
-slice-aggregate-put-whole c = search needs
+fits : (c : tie.After-size-of) → integerFits (length (start c .args .field .now)) (start c .args .value) ≡ true
+fits c = sym (judged (c .before .before)) ∙ not-false _ (c .before .if1 .left)
 
-put-whole-requires : tie.Need-put-whole-requires
-put-whole-requires c κs = search needs
+-- what is put from the right are the digits of its size
+size : (c : tie.After-size-of) → numeral (c .size-of .result) ≡ numeral (natAbs (start c .args .value))
+size c = ap numeral (c .size-of .ensures ∙ ap natAbs (toZ-ofZ (start c .fits .value)))
 
-sub-place : tie.Need-sub-place
-sub-place c = search needs
+digits : (c : tie.After-put-from-right)
+    → FromRight (start (c .before .before) .args .field .now) (numeral (natAbs (start (c .before .before) .args .value)))
+    (c .put-from-right .last .1 .0) (c .put-from-right .result)
+digits c =
+    subst (λ (t : List ℕ). FromRight (start (c .before .before) .args .field .now) t (c .put-from-right .last .1 .0) (c .put-from-right .result))
+    (size (c .before .before)) (c .put-from-right .ensures)
 
-part-place-start : tie.Need-part-place-start
-part-place-start c = search needs
+has-places-requires : tie.Need-has-places-requires
+has-places-requires c κs = search needs
 
-part-place-end : tie.Need-part-place-end
-part-place-end c =
-    let p = c .before .before in
-    let z = start p .args .value in
-    let k = count-most 1 20 (natAbs z) (omega arith) in
-    omega (arith, built p .kept, built p .place, whole-length z, minus-short z)
+returns : tie.Need-returns
+returns c =
+    let e : integerFits (length (c .before .before .before .args .field .now)) (c .before .before .before .args .value) ≡ false =
+    sym (judged (c .before)) ∙ not-true _ (c .if1 .taken)
+    in
+    simp e (refl, refl)
 
-place-requires : tie.Need-place-requires
-place-requires c κs = search needs
+size-of-requires : tie.Need-size-of-requires
+size-of-requires c κs = search needs
+
+put-from-right-requires : tie.Need-put-from-right-requires
+put-from-right-requires c κs =
+    let s = c .before in
+    let z = start s .args .value in
+    omega
+    (arith, ap length (size s), integer-room (length (start s .args .field .now)) z (fits s), length-append (minus z) (numeral (natAbs z)))
+
+fill-before-requires : tie.Need-fill-before-requires
+fill-before-requires c κs =
+    let p = c .before .before .before in
+    let s = p .before .before in
+    let z = start s .args .value in
+    (rw (toZ-ofZ (start s .fits .value)) (minus-fits z (digits p) (fits s)), digits-room z (digits p))
 
 same-length : tie.Need-same-length
 same-length c = search needs
 
-returns : tie.Need-returns
-unfolding integerText integerFits
-returns c =
-    let q = c .before .before in
-    let p = q .before .before .before .before .before in
-    placed (start p .args .field .now) (front (built p)) (q .place .ensures)
+returns-2 : tie.Need-returns-2
+returns-2 c =
+    let f = c .before .before in
+    let p = f .before .before .before .before in
+    let s = p .before .before in
+    let a = start s .args in
+    let told = ap (λ (z : ℤ). filledBefore z (p .put-from-right .result) (p .put-from-right .last .1 .0)) (toZ-ofZ (start s .fits .value)) in
+    simp (fits s) (refl, f .fill-before .ensures ∙ told ∙ field-text (a .value) (digits p))
 
 pub write-integer-spec : {M : Type 1} → statement M
 write-integer-spec =
     tie.close
     (tie.spec
-    slice-aggregate-put-whole
-    put-whole-requires
-    sub-place
-    part-place-start
-    part-place-end
-    place-requires
+    has-places-requires
+    returns
+    size-of-requires
+    put-from-right-requires
+    fill-before-requires
     same-length
-    returns)
+    returns-2)
