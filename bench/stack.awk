@@ -121,7 +121,6 @@ function walk(f, keep,    i, line, op, to, depth, known, tables, k, count, label
                 if (tails[i] || tables == "") stop(f " has a jump through a pointer: " line)
                 count = split(tables, k, " ")
                 for (; count > 0; count--) arrive(k[count], depth, f)
-                tables = ""
             } else if (to ~ /^\.L/) arrive(to, depth, f)
             else if (keep) called(f, to, depth, 0)
         }

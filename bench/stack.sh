@@ -1,7 +1,8 @@
 #!/usr/bin/env bash
 # The stack that each C call of include/desk.h uses at most, from the compiler's own frames along the deepest path of calls: bench/stack.sh
 # (docs/TRUST.md, row "Stack"). It runs on either machine. By itself it tells of x86-64, the very code of libdesk.a; bench/stack.sh aarch64
-# tells of the same module compiled for that processor, as bench/speed.sh compiles it.
+# tells of the same module compiled for that processor, as bench/speed.sh compiles it. Functions named behind the processor are told of too, as
+# far as the compiler has not laid them into their callers: bench/stack.sh x86_64 send::one_block::write_profile_block
 #
 # A line is a call, its bytes, and the deepest path: each function with what it holds there. That is its return address (8 bytes on x86-64;
 # aarch64 has it in a register, and saves it in the frame), the registers it saves, its frame, the arguments it pushes for the next, and, in
@@ -38,5 +39,5 @@ else
     words=("--target=$machine-unknown-linux-gnu" -Wno-override-module "${words[@]}")
 fi
 quietly "$tools/bin/clang" "${words[@]}" -fstack-usage -S -o "$room/desk.s"
-sed -n 's/^[a-z].*\(dem_[a-z_]*\)(.*/\1/p' include/desk.h >"$room/calls"
+{ sed -n 's/^[a-z].*\(dem_[a-z_]*\)(.*/\1/p' include/desk.h; printf '%s\n' "${@:2}"; } | sed '/^$/d' >"$room/calls"
 awk -v machine="$machine" -f bench/stack.awk "$room/calls" "$room/desk.su" "$room/desk.s"
