@@ -1,6 +1,6 @@
 -- Each arm is its own power of ten; past the last there is none.
 use mathlib.Core.Path.{_≡_, sym}
-use Prim.Native.Nat.{ℕ, _+_, _≤_, zero-le}
+use Prim.Native.Nat.{ℕ, zero, suc, _≤_, zero-le}
 use native.Mathlib.Omega.{arith}
 use borrow.Author.Tests.{le-ltb}
 use Rattle.number.specs.Tens.{tenTo}
@@ -83,16 +83,18 @@ returns-19 : tie.Need-returns-19
 unfolding tenTo
 returns-19 c = rw (c .match .keys19)
 
--- a number that is not below j, nor j
-past : {j k : ℕ} → j ≤ k → (k ≡ j → ⊥) → j + 1 ≤ k
-past h n = omega arith
+-- what the last arm is told: the number is none of those before it
+abbrev NoneOf : ℕ → ℕ → Type 0
+NoneOf zero k = Unit
+NoneOf (suc j) k = NoneOf j k × (k ≡ j → ⊥)
+
+past : (j k : ℕ) → NoneOf j k → j ≤ k
+past zero k n = zero-le
+past (suc j) k n = omega (arith, past j k (n .0), n .1)
 
 returns-20 : tie.Need-returns-20
 unfolding tenTo
-returns-20 c =
-    let n = c .match .rest in
-    let h : 19 ≤ c .before .args .k = past (past (past (past (past (past (past (past (past (past (past (past (past (past (past (past (past (past (past zero-le (n .0 .0 .0 .0 .0 .0 .0 .0 .0 .0 .0 .0 .0 .0 .0 .0 .0 .0 .1)) (n .0 .0 .0 .0 .0 .0 .0 .0 .0 .0 .0 .0 .0 .0 .0 .0 .0 .1)) (n .0 .0 .0 .0 .0 .0 .0 .0 .0 .0 .0 .0 .0 .0 .0 .0 .1)) (n .0 .0 .0 .0 .0 .0 .0 .0 .0 .0 .0 .0 .0 .0 .0 .1)) (n .0 .0 .0 .0 .0 .0 .0 .0 .0 .0 .0 .0 .0 .0 .1)) (n .0 .0 .0 .0 .0 .0 .0 .0 .0 .0 .0 .0 .0 .1)) (n .0 .0 .0 .0 .0 .0 .0 .0 .0 .0 .0 .0 .1)) (n .0 .0 .0 .0 .0 .0 .0 .0 .0 .0 .0 .1)) (n .0 .0 .0 .0 .0 .0 .0 .0 .0 .0 .1)) (n .0 .0 .0 .0 .0 .0 .0 .0 .0 .1)) (n .0 .0 .0 .0 .0 .0 .0 .0 .1)) (n .0 .0 .0 .0 .0 .0 .0 .1)) (n .0 .0 .0 .0 .0 .0 .1)) (n .0 .0 .0 .0 .0 .1)) (n .0 .0 .0 .0 .1)) (n .0 .0 .0 .1)) (n .0 .0 .1)) (n .0 .1)) (n .1) in
-    sym (simp (le-ltb (c .before .args .k) 19 h))
+returns-20 c = sym (simp (le-ltb (c .before .args .k) 19 (past 19 (c .before .args .k) (c .match .rest))))
 
 pub ten-to-spec : {M : Type 1} → statement M
 ten-to-spec =
