@@ -69,6 +69,17 @@ const SENT: &[OfSheets] = &[
     ("height of 32767 steps", |s| s.has_height(32767)),
     ("height of -32766 steps", |s| s.has_height(-32766)),
     ("height of -1 step", |s| s.has_height(-1)),
+    ("height of 0 steps", |s| s.has_height(0)),
+    ("steps of 1 digit", |s| s.has_steps(false, 1)),
+    ("steps of 2 digits", |s| s.has_steps(false, 2)),
+    ("steps of 3 digits", |s| s.has_steps(false, 3)),
+    ("steps of 4 digits", |s| s.has_steps(false, 4)),
+    ("steps of 5 digits", |s| s.has_steps(false, 5)),
+    ("steps of a minus and 1 digit", |s| s.has_steps(true, 1)),
+    ("steps of a minus and 2 digits", |s| s.has_steps(true, 2)),
+    ("steps of a minus and 3 digits", |s| s.has_steps(true, 3)),
+    ("steps of a minus and 4 digits", |s| s.has_steps(true, 4)),
+    ("steps of a minus and 5 digits", |s| s.has_steps(true, 5)),
 ];
 
 const REFUSED: &[OfRefusals] = &[
@@ -191,6 +202,14 @@ impl SentSheet<'_> {
     fn has_height(&self, steps: i64) -> bool {
         let wanted = steps * self.header.step();
         self.cells.iter().any(|&cell| i64::from(cell) == wanted)
+    }
+
+    /// A height of so many digits, below zero or not: each leaves another number of blanks
+    /// before it in its six bytes.
+    fn has_steps(&self, below_zero: bool, digits: usize) -> bool {
+        let filled = self.cells.iter().filter(|&&cell| cell != VOID_CELL);
+        let mut steps = filled.map(|&cell| i64::from(cell) / self.header.step());
+        steps.any(|n| (n < 0) == below_zero && n.unsigned_abs().to_string().len() == digits)
     }
 
     /// The real of this name in the template, which is written anew with a point.
