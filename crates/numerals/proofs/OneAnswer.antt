@@ -2,6 +2,7 @@
 use denote.Ref.{now}
 use Rattle.laws.proofs.Answers.{one-answer, OneLeft, OneResult}
 use Rattle.numerals.proofs.count_of.Reads as count-of·told
+use Rattle.numerals.proofs.is_below.Reads as is-below·told
 use Rattle.numerals.proofs.is_short.Reads as is-short·told
 use Rattle.numerals.proofs.put_byte.Reads as put-byte·told
 use Rattle.numerals.proofs.put_digits.Reads as put-digits·told
@@ -11,6 +12,9 @@ use Rattle.numerals.proofs.put_word.Reads as put-word·told
 
 pub count-of : OneResult count-of·told.Learnt
 count-of κs a z z′ e e′ p q = one-answer p q
+
+pub is-below : OneResult is-below·told.Learnt
+is-below κs a z z′ e e′ p q = one-answer p q
 
 pub is-short : OneResult is-short·told.Learnt
 is-short κs a z z′ e e′ p q = one-answer p q

@@ -24,7 +24,7 @@ fn power_of(k: usize) -> u64
 }
 
 // Whether k digits are enough.
-fn is_below(n: u64, k: usize) -> bool
+pub fn is_below(n: u64, k: usize) -> bool
     ensures { λ r. ⌜ r ≡ ltb n (10 ^ k) ⌝ }
 {
     if 19 < k {

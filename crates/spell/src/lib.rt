@@ -4,7 +4,7 @@ ghost use mathlib.Core.Bool.{cond};
 ghost use mathlib.Core.List.{_∷_, _++_};
 ghost use mathlib.Core.Path.{_≡_};
 ghost use Prim.Native.Nat.{_+_, _≤_, _<_, _^_};
-ghost use lib.Dec.{leb, ltb};
+ghost use lib.Dec.{leb};
 ghost use lib.IntN.{natAbs, pos};
 ghost use lib.Signed.{ltZ};
 ghost use lib.ListN.{length, getD, replicate};
@@ -59,17 +59,6 @@ fn place(text: &[u8], field: &mut [u8]) -> bool
     true
 }
 
-// Whether so many digits are enough. No number of 64 bits with a sign has more than 19.
-fn are_enough(places: usize, size: u64) -> bool
-    requires { ⌜ size < 10 ^ 19 ⌝ }
-    ensures { λ r. ⌜ r ≡ ltb size (10 ^ places) ⌝ }
-{
-    if 18 < places {
-        return true;
-    }
-    size < number::ten_to(places)
-}
-
 // Whether a minus and the digits have their bytes: asked before the first is put, since from the right one would find out too late.
 fn has_places(value: i64, width: usize) -> bool
     ensures { λ r. ⌜ r ≡ integerFits width value ⌝ }
@@ -79,9 +68,9 @@ fn has_places(value: i64, width: usize) -> bool
     }
     let size = number::size_of(value);
     if value < 0 {
-        return are_enough(width - 1, size);
+        return numerals::is_below(size, width - 1);
     }
-    are_enough(width, size)
+    numerals::is_below(size, width)
 }
 
 // The digits from the right end of the field; returns where the first stands. One is put before it is asked for more, so that zero has one.

@@ -19,9 +19,6 @@ use Rattle.spell.proofs.has_places.Tie as tie
 size : (c : tie.After-size-of) → c .size-of .result ≡ natAbs (c .before .before .args .value)
 size c = c .size-of .ensures ∙ ap natAbs (toZ-ofZ (c .before .before .fits .value))
 
-small : (c : tie.After-size-of) → c .size-of .result < 10 ^ 19
-small c = rw (size c) (size-below (c .before .before .args .value) (c .before .before .fits .value))
-
 -- what the test of the size says, with so many bytes for the digits
 by-size : (c : tie.After-size-of) {room : ℕ} {r : Bool} → r ≡ ltb (c .size-of .result) (10 ^ room)
     → room ≡ c .before .before .args .width - length (minus (c .before .before .args .value))
@@ -39,30 +36,30 @@ returns c =
 size-of-requires : tie.Need-size-of-requires
 size-of-requires c κs = search needs
 
-sub-are-enough : tie.Need-sub-are-enough
-sub-are-enough c = omega (arith, c .before .before .if1 .left)
+sub-is-below : tie.Need-sub-is-below
+sub-is-below c = omega (arith, c .before .before .if1 .left)
 
-are-enough-requires : tie.Need-are-enough-requires
-are-enough-requires c κs = small (c .before)
+is-below-requires : tie.Need-is-below-requires
+is-below-requires c κs = search needs
 
 returns-2 : tie.Need-returns-2
 returns-2 c =
     let s = c .before .before in
     let z = s .before .before .args .value in
     let below : ltZ z (pos 0) ≡ true = rw (← toZ-ofZ (s .before .before .fits .value)) (c .before .if2 .taken) in
-    by-size s (c .are-enough .ensures) (rw below (omega arith))
+    by-size s (c .is-below .ensures) (rw below (omega arith))
 
-are-enough-requires-2 : tie.Need-are-enough-requires-2
-are-enough-requires-2 c κs = small (c .before)
+is-below-requires-2 : tie.Need-is-below-requires-2
+is-below-requires-2 c κs = search needs
 
 returns-3 : tie.Need-returns-3
 returns-3 c =
     let s = c .before .before in
     let z = s .before .before .args .value in
     let not-below : ltZ z (pos 0) ≡ false = rw (← toZ-ofZ (s .before .before .fits .value)) (c .before .if2 .left) in
-    by-size s (c .are-enough2 .ensures) (rw not-below (omega arith))
+    by-size s (c .is-below2 .ensures) (rw not-below (omega arith))
 
 pub has-places-spec : {M : Type 1} → statement M
 has-places-spec =
     tie.close
-    (tie.spec returns size-of-requires sub-are-enough are-enough-requires returns-2 are-enough-requires-2 returns-3)
+    (tie.spec returns size-of-requires sub-is-below is-below-requires returns-2 is-below-requires-2 returns-3)
