@@ -3,7 +3,7 @@
  * of count and then its elements; `family`, `number`, `length`, `room` and the like have four bytes. Values have the least byte first, both ways.
  *
  * On one slice of bytes, asked in each of two surroundings:
- *   'f' a field          kind and value of the integer, kind and value of the real
+ *   'f' a field          kind, value and byte of the integer, then those of the real
  *   'a' a record A       kind, byte, origin, length of the name
  * On slices that all stand between guards; the answer starts with whether every guard, and every slice that the call may only
  * read, is as it was (1 or 0):
@@ -266,8 +266,10 @@ static void answer_write_sheet(struct request *asked) {
 static void answer_field(const uint8_t *field, size_t length) {
     put(dem_integer_kind(field, length), 4);
     put((uint64_t)dem_integer_value(field, length), 8);
+    put(dem_integer_byte(field, length), 4);
     put(dem_real_kind(field, length), 4);
     put((uint64_t)dem_real_value(field, length), 8);
+    put(dem_real_byte(field, length), 4);
 }
 
 static void answer_record_a(const uint8_t *bytes, size_t length) {

@@ -136,7 +136,7 @@ static void take(struct desk desk, uint8_t *blocks[BLOCKS])
     expect(!has_mean(desk.session, &mean) && desk.session[DEM_SUM] == 0, "no mean yet");
     uint8_t kept = blocks[1][149];
     blocks[1][149] = '\t'; /* the last byte of the first post */
-    deliver(desk, 1, blocks[1], BLOCK, 6, 1, 145);
+    deliver(desk, 1, blocks[1], BLOCK, 6, 1, 150);
     blocks[1][149] = kept;
     deliver(desk, 1, blocks[1], BLOCK, 0, 0, 0);
     show_mean(desk.session, 2, 1000 + 1200, 1100);
@@ -185,7 +185,7 @@ static void other_families(struct desk desk, const uint8_t *block)
     expect(dem_open(2, other.session, DEM_SESSION) == 0 && other.session[DEM_FAMILY] == 2, "family 2 is opened");
     deliver(other, 0, block, BLOCK, 2, 0, 0);
     expect(dem_open(DEM_CANADIAN, other.session, DEM_SESSION) == 0 && dem_is_sound(other.session, DEM_SESSION) == 1, "family 1 is opened");
-    deliver(other, 0, block, BLOCK, 6, 0, 110); /* no corner in degrees */
+    deliver(other, 0, block, BLOCK, 6, 0, 113); /* no corner in degrees: all blank, so the last byte */
     close_desk(other);
 }
 

@@ -13,38 +13,53 @@ struct example {
     const char *text;
     uint32_t kind;
     int64_t value; /* of a real, in billionths */
+    uint32_t byte; /* of wrong form, counted from 1 */
 };
 
 /* document 01, "Examples on the edge", and 02 */
 static const struct example examples[] = {
-    {'r', "0.428400000000000D+06", 0, INT64_C(428400000000000)},
-    {'r', "1.0D-09", 0, 1},
-    {'r', ".5D-09", 8, 0},
-    {'r', "1.0D+09", 7, 0},
-    {'r', "0.0D+99", 0, 0},
-    {'r', "                        ", 6, 0},
-    {'r', "123456789.1234567", 8, 0},
-    {'r', "999999999.9", 0, INT64_C(999999999900000000)},
+    {'r', "0.428400000000000D+06", 0, INT64_C(428400000000000), 0},
+    {'r', "1.0D-09", 0, 1, 0},
+    {'r', ".5D-09", 8, 0, 0},
+    {'r', "1.0D+09", 7, 0, 0},
+    {'r', "0.0D+99", 0, 0, 0},
+    {'r', "                        ", 6, 0, 24},
+    {'r', "123456789.1234567", 8, 0, 0},
+    {'r', "999999999.9", 0, INT64_C(999999999900000000), 0},
     /* document 02, request 4: no point, by the length of the field */
-    {'r', "  300000E+01", 0, INT64_C(3000000000)},
-    {'r', "300000E+01", 0, 3},
-    {'r', "              300000E+01", 0, 3},
-    {'r', " 300000", 0, INT64_C(30000000000)},
-    {'r', "          30", 0, 30000},
-    {'r', "                     600", 8, 0},
-    {'r', "                    1D24", 7, 0},
-    {'r', "5", 8, 0},
-    {'r', "5.", 0, INT64_C(5000000000)},
-    {'i', "    -7", 0, -7},
-    {'i', "32768 ", 6, 0},
-    {'i', "-32768", 0, -32768},
-    {'i', "      ", 6, 0},
-    {'i', "", 1, 0},
+    {'r', "  300000E+01", 0, INT64_C(3000000000), 0},
+    {'r', "300000E+01", 0, 3, 0},
+    {'r', "              300000E+01", 0, 3, 0},
+    {'r', " 300000", 0, INT64_C(30000000000), 0},
+    {'r', "          30", 0, 30000, 0},
+    {'r', "                     600", 8, 0, 0},
+    {'r', "                    1D24", 7, 0, 0},
+    {'r', "5", 8, 0, 0},
+    {'r', "5.", 0, INT64_C(5000000000), 0},
+    {'i', "    -7", 0, -7, 0},
+    {'i', "32768 ", 6, 0, 6},
+    {'i', "-32768", 0, -32768, 0},
+    {'i', "      ", 6, 0, 6},
+    {'i', "", 1, 0, 0},
+    /* document 02, request 6: which byte first makes the form impossible; an integer stands right, a real may have blanks behind it */
+    {'i', "1     ", 6, 0, 2},
+    {'i', "    1 ", 6, 0, 6},
+    {'i', "     +", 6, 0, 6},
+    {'i', "99999x", 6, 0, 6},
+    {'r', "1 .0", 6, 0, 3},
+    {'r', "1.0 D+01", 6, 0, 5},
+    {'r', "1.0D  ", 6, 0, 5},
+    {'r', "1.0D", 6, 0, 4},
+    {'r', ".D+01", 6, 0, 2},
+    {'r', "1.0D+012", 6, 0, 8},
+    {'r', "1.0d+01", 6, 0, 4},
 };
 
-static void print_reading(const char *name, uint32_t kind, int64_t value, int billionths)
+static void print_reading(const char *name, uint32_t kind, int64_t value, uint32_t byte, int billionths)
 {
-    if (kind != 0)
+    if (byte != 0)
+        printf("  %s: refused, kind %" PRIu32 ", byte %" PRIu32 "\n", name, kind, byte);
+    else if (kind != 0)
         printf("  %s: refused, kind %" PRIu32 "\n", name, kind);
     else if (!billionths)
         printf("  %s: %" PRId64 "\n", name, value);
@@ -63,10 +78,11 @@ static int check_examples(void)
         size_t n = strlen(e->text);
         uint32_t kind = e->reading == 'i' ? dem_integer_kind(field, n) : dem_real_kind(field, n);
         int64_t value = e->reading == 'i' ? dem_integer_value(field, n) : dem_real_value(field, n);
+        uint32_t byte = e->reading == 'i' ? dem_integer_byte(field, n) : dem_real_byte(field, n);
         printf("[%s]\n", e->text);
-        print_reading(e->reading == 'i' ? "integer" : "real", kind, value, e->reading == 'r');
-        if (kind != e->kind || value != e->value) {
-            printf("  WRONG: the papers say kind %" PRIu32 ", value %" PRId64 "\n", e->kind, e->value);
+        print_reading(e->reading == 'i' ? "integer" : "real", kind, value, byte, e->reading == 'r');
+        if (kind != e->kind || value != e->value || byte != e->byte) {
+            printf("  WRONG: the papers say kind %" PRIu32 ", value %" PRId64 ", byte %" PRIu32 "\n", e->kind, e->value, e->byte);
             wrong = 1;
         }
     }
@@ -80,8 +96,8 @@ static void read_lines(void)
         size_t n = strcspn(line, "\n");
         const uint8_t *field = (const uint8_t *)line;
         printf("[%.*s]\n", (int)n, line);
-        print_reading("integer", dem_integer_kind(field, n), dem_integer_value(field, n), 0);
-        print_reading("real", dem_real_kind(field, n), dem_real_value(field, n), 1);
+        print_reading("integer", dem_integer_kind(field, n), dem_integer_value(field, n), dem_integer_byte(field, n), 0);
+        print_reading("real", dem_real_kind(field, n), dem_real_value(field, n), dem_real_byte(field, n), 1);
     }
 }
 

@@ -21,9 +21,11 @@ extern "C" {
 
 /* ---- Fields and record A ---- */
 
-/* An integer field of 1 to 6 bytes. Kind: 0 read, 1 wrong length, 6 wrong form. Value: 0 where refused. */
+/* An integer field of 1 to 6 bytes. Kind: 0 read, 1 wrong length, 6 wrong form. Value: 0 where refused. Byte: of a field of wrong form
+ * the one, counted from 1, that first makes its form impossible, which is the last where it merely ends too soon; 0 for every other kind. */
 uint32_t dem_integer_kind(const uint8_t *field, size_t length);
 int64_t dem_integer_value(const uint8_t *field, size_t length);
+uint32_t dem_integer_byte(const uint8_t *field, size_t length);
 
 /* A real field of 1 to 24 bytes. Kind: 0 read, 1 wrong length, 6 wrong form, 7 magnitude 1,000,000,000 or more,
  * 8 finer than a billionth or more than 15 digits. Value: a whole number of billionths, 0 where refused.
@@ -31,6 +33,7 @@ int64_t dem_integer_value(const uint8_t *field, size_t length);
  * other. So hand over the field as it stands in its record, blanks and all: with its blanks cut off it may be another number. */
 uint32_t dem_real_kind(const uint8_t *field, size_t length);
 int64_t dem_real_value(const uint8_t *field, size_t length);
+uint32_t dem_real_byte(const uint8_t *field, size_t length);
 
 /* A record A: a block of 1,024 bytes. Kind: 0 where no rule is broken, else the number of the first broken rule, 1 for another
  * length. Byte: where that rule stands, counted from 1; 0 where none is broken, and for kind 1. */

@@ -1,8 +1,9 @@
-//! A block and the fields in it. Bytes are counted from 1, as in the papers; a reading
-//! that fails is a fault at the first byte of its field.
+//! A block and the fields in it. Bytes are counted from 1, as in the papers. A reading that
+//! fails is a fault at the first byte of its field; one of wrong form, at the very byte that makes
+//! it so (02, request 6).
 
-use crate::kind::WRONG_TEXT;
-use crate::number;
+use crate::kind::{WRONG_FORM, WRONG_TEXT};
+use crate::number::{self, Reading};
 use std::ops::RangeInclusive;
 
 pub const BLOCK_LENGTH: usize = 1024;
@@ -29,6 +30,15 @@ pub enum Record {
     Statistics,
 }
 
+impl Record {
+    pub const ALL: [Record; 4] = [
+        Record::Header,
+        Record::ProfileStart,
+        Record::ProfileRest,
+        Record::Statistics,
+    ];
+}
+
 pub fn stretch(block: &[u8], first: usize, last: usize) -> &[u8] {
     &block[first - 1..last]
 }
@@ -52,9 +62,21 @@ pub fn integer(block: &[u8], first: usize) -> Result<i64, Fault> {
 
 /// An integer of another width than most.
 pub fn integer_of(block: &[u8], first: usize, width: usize) -> Result<i64, Fault> {
-    let (kind, value) = number::integer(stretch(block, first, first + width - 1));
-    demand(kind == number::FINE, kind, first)?;
-    Ok(value)
+    value_of(
+        number::integer(stretch(block, first, first + width - 1)),
+        first,
+    )
+}
+
+/// The value that was read in a field at `first`, or the fault.
+fn value_of(reading: Reading, first: usize) -> Result<i64, Fault> {
+    let byte = match reading.kind {
+        // Bytes of a field are counted from 1 too (READINGS-02, 6.2).
+        WRONG_FORM => first + reading.byte as usize - 1,
+        _ => first,
+    };
+    demand(reading.kind == number::FINE, reading.kind, byte)?;
+    Ok(reading.value)
 }
 
 /// The reading's own kind comes before the rule of the field (READINGS 9).
@@ -71,9 +93,18 @@ pub fn integer_within(
 
 /// A real in billionths.
 pub fn real(block: &[u8], first: usize, width: usize) -> Result<i64, Fault> {
-    let (kind, value) = number::real(stretch(block, first, first + width - 1));
-    demand(kind == number::FINE, kind, first)?;
-    Ok(value)
+    value_of(
+        number::real(stretch(block, first, first + width - 1)),
+        first,
+    )
+}
+
+/// A real of which only the form is judged: one too large or too fine passes (READINGS 11).
+pub fn real_form(block: &[u8], first: usize, width: usize) -> Result<(), Fault> {
+    match real(block, first, width) {
+        Err((WRONG_FORM, byte)) => Err((WRONG_FORM, byte)),
+        _ => Ok(()),
+    }
 }
 
 /// Nothing but blanks from byte `first` to the block's end, judged together (READINGS 18).

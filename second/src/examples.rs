@@ -1,5 +1,6 @@
 //! Field texts on the edge with the answers the papers give them or that follow from
-//! their rules. Each row: text, kind, value (reals in billionths).
+//! their rules. Each row: text, kind, value (reals in billionths). The byte of those of wrong form,
+//! each found by reading the text from the left with the papers beside it, has tables of its own.
 
 use crate::block::UNIT;
 
@@ -322,4 +323,144 @@ pub const POINTLESS_REALS: &[Example] = &[
     (b"0300000", 0, 30 * UNIT),
     (b"    3E5", 0, 30 * UNIT),
     (b"     -1", 0, -100_000),
+];
+
+/// A text of wrong form, and which of its bytes makes it so.
+pub type Spoilt = (&'static [u8], u32);
+
+/// Integers of wrong form (02, request 6).
+pub const INTEGER_BYTES: &[Spoilt] = &[
+    // READINGS-02, 6.4: the blank behind a digit, since integers stand right; a field that ends
+    // too soon has its last byte.
+    (b"1     ", 2),
+    (b"    1 ", 6),
+    (b"32768 ", 6),
+    (b"7 ", 2),
+    (b" 7 ", 3),
+    (b"1 2", 2),
+    (b"      ", 6),
+    (b"   ", 3),
+    (b" ", 1),
+    (b"     +", 6),
+    (b"     -", 6),
+    (b"+", 1),
+    (b"-", 1),
+    (b"-  ", 2),
+    (b"-    7", 2),
+    (b"- 7", 2),
+    (b"+ 7", 2),
+    (b"    - ", 6),
+    // 6.5: whatever cannot stand there, itself.
+    (b"\t    7", 1),
+    (b"    \t7", 5),
+    (b"\0    7", 1),
+    (b"    \x007", 5),
+    (b"\xA0    7", 1),
+    (b"    \xA07", 5),
+    (b"     \t", 6),
+    (b"    7\0", 6),
+    (b"--7", 2),
+    (b"+-7", 2),
+    (b"-+7", 2),
+    (b"7-", 2),
+    (b"7+", 2),
+    (b"7.", 2),
+    (b"7.0", 2),
+    (b"   7.0", 5),
+    (b"7D0", 2),
+    (b"1E1", 2),
+    (b"1,000", 2),
+    (b"   1O2", 5),
+    (b"D+01", 1),
+    (b"/", 1),
+    (b":", 1),
+    (b"\xB7", 1),
+    // 6.1: by form alone, though no post begins with these digits.
+    (b"99999x", 6),
+    (b"99999 ", 6),
+    // The first of two.
+    (b"x1 y", 1),
+    (b"1xy", 2),
+    (b" 1 2 3", 3),
+];
+
+/// Reals of wrong form.
+pub const REAL_BYTES: &[Spoilt] = &[
+    // READINGS-02, 6.4: blanks may follow a real, so it is what stands behind them.
+    (b"1 .0", 3),
+    (b"1 .5", 3),
+    (b"1. 5", 4),
+    (b"1.0 D+01", 5),
+    (b"1.5 D1", 5),
+    (b"1.5 2", 5),
+    (b"1 2", 3),
+    (b"1     2", 7),
+    (b"1     -", 7),
+    (b"  1.0D+01   x   ", 13),
+    (b"300000 E+01 ", 8),
+    // But a blank behind a sign, a bare point, a letter or the letter's sign is it.
+    (b"-  ", 2),
+    (b"  -         ", 4),
+    (b"- 1.5", 2),
+    (b". ", 2),
+    (b"-. 5", 3),
+    (b"1.0D  ", 5),
+    (b"1.5D 1", 5),
+    (b"1.5D+ 1", 6),
+    (b"  300000E+  ", 11),
+    // A field that ends too soon has its last byte, a blank one too.
+    (b"1.0D", 4),
+    (b"1.0D+", 5),
+    (b"     +", 6),
+    (b"-", 1),
+    (b"     -", 6),
+    (b".", 1),
+    (b"-.", 2),
+    (b"  .", 3),
+    (b" ", 1),
+    (b"       ", 7),
+    (b"                        ", 24),
+    // 6.5: whatever cannot stand there, itself.
+    (b"+.", 2),
+    (b".D+01", 2),
+    (b"D+01", 1),
+    (b"E1", 1),
+    (b"       E+01 ", 8),
+    (b"1.0D+001", 8),
+    (b"1.0D001", 7),
+    (b" 300000E+001", 12),
+    (b"1..5", 3),
+    (b"1.5.", 4),
+    (b"..5", 2),
+    (b"+-1.5", 2),
+    (b"1.0D+-1", 6),
+    (b"1.5-", 4),
+    (b"1.0+01", 4),
+    (b"1.0-01", 4),
+    (b"1.0d+01", 4),
+    (b"1.0e+01", 4),
+    (b"1.0F+01", 4),
+    (b"1.0C+01", 4),
+    (b"1.0DE1", 5),
+    (b"1.0D1D1", 6),
+    (b"1.0D1.", 6),
+    (b"1.0D1.0", 6),
+    (b"1.5\t", 4),
+    (b"\t1.5", 1),
+    (b"1.5\0", 4),
+    (b"\x001.5", 1),
+    (b"1.5\xA0", 4),
+    (b"\xA01.5", 1),
+    (b"600.O", 5),
+    (b"6OO.0", 2),
+    // 6.1: by form alone, though the number is too large or too fine by then.
+    (b"1D99x", 5),
+    (b"1000000000000.x", 15),
+    (b"1.D-99 x", 8),
+    // Found from the right, in front of the letter or behind it first, these would have another.
+    (b"x1.0D+", 1),
+    (b"1.0xD+001", 4),
+    (b"1,0 D+x", 2),
+    (b"  1.0D+  x", 8),
+    (b"- - 1.0 ", 2),
 ];

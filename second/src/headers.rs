@@ -19,6 +19,10 @@ pub const FAMILIES: &[Family] = &[
         make: wrong::every_field,
     },
     Family {
+        name: "every field mistyped",
+        make: wrong::every_field_mistyped,
+    },
+    Family {
         name: "every byte changed",
         make: wrong::every_byte,
     },

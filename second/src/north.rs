@@ -17,7 +17,9 @@ use crate::runs::line::{marked, Brought, Line};
 use crate::runs::shown::{Look, Seen};
 use crate::sheets::aimed::{damaged_profile_block, put_without_point, POINTLESS_TURNS};
 use crate::sheets::canadian::{self, CELLS};
+use crate::sheets::damage::STRANGERS;
 use crate::sheets::{put, Plan, Sent};
+use crate::spots;
 
 /// Cells past the sheet, which no delivery may touch, and what they hold.
 const SPARE: usize = 5;
@@ -49,6 +51,9 @@ pub struct North<'a> {
     pub ends: Counts,
     /// Reals without a point in single blocks, and what came of them.
     pub pointless: Counts,
+    /// Where in their fields faults of form stood, in single blocks and in runs.
+    pub spots: Counts,
+    pub spots_of_runs: Counts,
 }
 
 impl<'a> North<'a> {
@@ -63,6 +68,8 @@ impl<'a> North<'a> {
             runs: Seen::default(),
             ends: Counts::default(),
             pointless: Counts::default(),
+            spots: Counts::default(),
+            spots_of_runs: Counts::default(),
         }
     }
 
@@ -103,6 +110,43 @@ impl<'a> North<'a> {
         self.look_at_all();
     }
 
+    /// The first blocks of a sheet, each of them before it is sent rightly with a stranger in each
+    /// sort of number, at its first byte, at its last and between; singly, then at the end of runs.
+    pub fn send_mistyped(&mut self, dice: &mut Dice) {
+        for by_runs in [false, true] {
+            let blocks = canadian::plan(dice, 1).blocks(dice);
+            self.begin();
+            for number in 0..blocks.len() {
+                self.send_mistyped_block(dice, &blocks, number, by_runs);
+                self.send_good(dice, &blocks, number);
+            }
+            self.end(true);
+        }
+    }
+
+    fn send_mistyped_block(
+        &mut self,
+        dice: &mut Dice,
+        blocks: &[Sent],
+        number: usize,
+        by_runs: bool,
+    ) {
+        let due = &blocks[number];
+        for byte in spots::telling_bytes(CANADIAN, due.record) {
+            let mut block = due.bytes.clone();
+            put(&mut block, byte, &[*dice.pick(STRANGERS)]);
+            if by_runs {
+                // What was taken comes first once more.
+                let first = number - number.min(dice.size(0, 2));
+                let held = blocks[first..number].iter().flat_map(|sent| &sent.bytes);
+                let run = held.copied().chain(block).collect();
+                self.send_a_run(dice, (first as u32, run), CELLS);
+            } else {
+                self.send(dice, number as u32, &block, CELLS);
+            }
+        }
+    }
+
     /// So many blocks of a sheet, with mishaps; some never get a good block 0.
     pub fn send_broken_off(&mut self, dice: &mut Dice, turn: usize) {
         let profiles = *dice.pick(&[1, 1, 2, 3]);
@@ -117,7 +161,7 @@ impl<'a> North<'a> {
             self.mishaps(dice, &plan, &blocks, number, 3);
             self.send_good(dice, &blocks, number);
         }
-        for _ in 0..if end == 0 { 10 } else { 4 } {
+        for _ in 0..if end == 0 { 20 } else { 4 } {
             self.mishap(dice, &plan, &blocks, end);
         }
         self.end(turn % 3 == 1);
@@ -281,6 +325,9 @@ impl<'a> North<'a> {
         for name in pointless::shown_by_delivery(&self.numbers, number, block, told) {
             self.pointless.see(name);
         }
+        if let Some(name) = spots::shown_by_delivery(&after, told) {
+            self.spots.see(name);
+        }
         (self.ask)(placed.call(told, None, &after, &self.grid));
         if told.result == DONE {
             self.text.push(block.to_vec());
@@ -304,6 +351,9 @@ impl<'a> North<'a> {
         let placed = self.placed(dice, number, &bytes, lent);
         let (ended, after) = placed.leaves(runs::deliver, &mut self.grid);
         self.runs.see(&Look::at_placed(&placed, ended, &after));
+        if let Some(name) = spots::shown_by_delivery(&after, ended.told) {
+            self.spots_of_runs.see(name);
+        }
         (self.ask)(placed.call(ended.told, Some(ended.count), &after, &self.grid));
         // What was taken stands behind what was held.
         let taken = (after[place::TAKEN] - self.numbers[place::TAKEN]) as usize;
@@ -394,6 +444,12 @@ pub fn answers_of_runs() -> Vec<String> {
     let kinds = [1, 3, 4, 5, 6, 7, 9, 10, 11, 12, 15];
     let results = [DONE, HELD].into_iter().chain(kinds);
     results.map(name_of).collect()
+}
+
+/// Where faults of form must have stood.
+pub fn spots_wanted() -> Vec<String> {
+    let records = [Record::Header, Record::ProfileStart, Record::ProfileRest];
+    spots::wanted(CANADIAN, &records)
 }
 
 pub const ENDS: [&str; 4] = [

@@ -1,9 +1,11 @@
 //! The two field readings of document 01, "Number fields", done as with pencil and
 //! paper: a real is two rows of digits, left and right of the point, and an exponent
 //! moves the point one place at a time. Where no point is written, it is put in first
-//! (02, request 4). No value is ever rounded or estimated.
+//! (02, request 4). No value is ever rounded or estimated. Which byte spoils a form
+//! (02, request 6) is for very_byte.rs to find, by asking for the forms here.
 
 use crate::kind::{OUT_OF_RANGE, TOO_FINE, WRONG_FORM, WRONG_LENGTH};
+use crate::very_byte::{very_byte, Form};
 use std::collections::VecDeque;
 
 /// The kind of a field that reads well.
@@ -17,21 +19,41 @@ const DIGITS_BEFORE_POINT: usize = 9;
 const DIGITS_AFTER_POINT: usize = 9;
 const SIGNIFICANT_DIGITS: usize = 15;
 
-/// Kind and value of an integer field; the value is 0 unless the kind is 0.
-pub fn integer(field: &[u8]) -> (u32, i64) {
-    answer(read_integer(field))
+/// What a reading says of a field.
+#[derive(Clone, Copy, Debug, PartialEq)]
+pub struct Reading {
+    pub kind: u32,
+    /// A real's is in billionths; 0 unless the kind is 0.
+    pub value: i64,
+    /// The byte of a field of wrong form that makes it so, counted from 1; 0 for every other
+    /// kind (READINGS-02, 6.3).
+    pub byte: u32,
 }
 
-/// Kind and value, in billionths, of a real field; the value is 0 unless the kind is 0.
-pub fn real(field: &[u8]) -> (u32, i64) {
-    answer(read_real(field))
+impl Reading {
+    pub fn kind_and_value(&self) -> (u32, i64) {
+        (self.kind, self.value)
+    }
 }
 
-fn answer(reading: Result<i64, u32>) -> (u32, i64) {
-    match reading {
+pub fn integer(field: &[u8]) -> Reading {
+    reading(field, read_integer(field), has_integer_form)
+}
+
+pub fn real(field: &[u8]) -> Reading {
+    reading(field, read_real(field), has_real_form)
+}
+
+fn reading(field: &[u8], read: Result<i64, u32>, form: Form) -> Reading {
+    let (kind, value) = match read {
         Ok(value) => (FINE, value),
         Err(kind) => (kind, 0),
-    }
+    };
+    let byte = match kind {
+        WRONG_FORM => very_byte(field, form),
+        _ => 0,
+    };
+    Reading { kind, value, byte }
 }
 
 // Length is judged before form (READINGS 5).
@@ -39,14 +61,7 @@ fn read_integer(field: &[u8]) -> Result<i64, u32> {
     if field.is_empty() || field.len() > LONGEST_INTEGER {
         return Err(WRONG_LENGTH);
     }
-    let mut text = Text { rest: field };
-    text.skip_blanks();
-    let negative = text.take_sign();
-    let digits = text.take_digits();
-    // Blanks after the digits are wrong form: integers stand only to the right.
-    if digits.is_empty() || !text.at_end() {
-        return Err(WRONG_FORM);
-    }
+    let (negative, digits) = split_integer(field).ok_or(WRONG_FORM)?;
     Ok(with_sign(negative, number_of(digits)))
 }
 
@@ -54,8 +69,9 @@ fn read_real(field: &[u8]) -> Result<i64, u32> {
     if field.is_empty() || field.len() > LONGEST_REAL {
         return Err(WRONG_LENGTH);
     }
-    let (mut decimal, exponent) = split_real(field).ok_or(WRONG_FORM)?;
-    decimal.move_point(exponent);
+    let parts = split_real(field).ok_or(WRONG_FORM)?;
+    let mut decimal = parts.decimal(field.len());
+    decimal.move_point(parts.exponent);
     decimal.drop_outer_zeros();
     // Order of 01 and READINGS 6: 7 on the exact value, then 8. Zero has no digits
     // left here and so passes both (READINGS 7).
@@ -71,6 +87,26 @@ fn read_real(field: &[u8]) -> Result<i64, u32> {
     Ok(decimal.billionths())
 }
 
+/// Whether an integer may be spelled like this; length and value have no say in it.
+pub fn has_integer_form(field: &[u8]) -> bool {
+    split_integer(field).is_some()
+}
+
+/// The same of a real: one that is too large or too fine has right form.
+pub fn has_real_form(field: &[u8]) -> bool {
+    split_real(field).is_some()
+}
+
+/// The form of an integer: whether it is negative, and its digits; None if wrong.
+fn split_integer(field: &[u8]) -> Option<(bool, &[u8])> {
+    let mut text = Text { rest: field };
+    text.skip_blanks();
+    let negative = text.take_sign();
+    let digits = text.take_digits();
+    // Blanks after the digits are wrong form: integers stand only to the right.
+    (!digits.is_empty() && text.at_end()).then_some((negative, digits))
+}
+
 /// How many of its digits stand behind the point that a real without one is given: the second
 /// number of the descriptor that a field of this many bytes has, E12.6, F7.4 or D24.15; one read
 /// alone may have other lengths, and they go with the last. What the field holds has no say in
@@ -83,28 +119,44 @@ pub fn decimals_of(length: usize) -> usize {
     }
 }
 
-/// The form of a real: the decimal before its exponent, and the exponent; None if wrong.
-fn split_real(field: &[u8]) -> Option<(Decimal, i32)> {
+/// A real as it is spelled.
+struct Parts<'a> {
+    negative: bool,
+    before: &'a [u8],
+    /// The digits behind the point; None where no point stands.
+    behind: Option<&'a [u8]>,
+    exponent: i32,
+}
+
+/// The form of a real; None if wrong.
+fn split_real(field: &[u8]) -> Option<Parts<'_>> {
     let mut text = Text { rest: field };
     text.skip_blanks();
     let negative = text.take_sign();
     let before = text.take_digits();
-    let has_point = text.take_one_of(b".");
-    let behind = if has_point { text.take_digits() } else { &[] };
+    let behind = text.take_one_of(b".").then(|| text.take_digits());
     // Form knows nothing of a point that is put in (READINGS-02, 4.3).
-    if before.is_empty() && behind.is_empty() {
+    if before.is_empty() && behind.unwrap_or_default().is_empty() {
         return None;
     }
     let exponent = take_exponent(&mut text)?;
     text.skip_blanks();
-    if !text.at_end() {
-        return None;
+    text.at_end().then_some(Parts {
+        negative,
+        before,
+        behind,
+        exponent,
+    })
+}
+
+impl Parts<'_> {
+    /// The number before its exponent, in a field of so many bytes.
+    fn decimal(&self, length: usize) -> Decimal {
+        match self.behind {
+            Some(behind) => Decimal::new(self.negative, self.before, behind),
+            None => Decimal::with_point_put_in(self.negative, self.before, decimals_of(length)),
+        }
     }
-    let decimal = match has_point {
-        true => Decimal::new(negative, before, behind),
-        false => Decimal::with_point_put_in(negative, before, decimals_of(field.len())),
-    };
-    Some((decimal, exponent))
 }
 
 /// An exponent that is not there is 0; one of wrong form is None (READINGS 3).

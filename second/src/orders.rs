@@ -33,7 +33,7 @@ type Family = turns::Family<fn(&mut Dice) -> Order>;
 
 /// Each with how many of every hundred orders are of it.
 pub const FAMILIES: &[Family] = &[
-    Family::of("small sheets", 20, whole::small),
+    Family::of("small sheets", 17, whole::small),
     Family::of("sheets of voids", 8, whole::of_voids),
     Family::of("long profiles", 12, whole::long),
     Family::of("wide sheets", 2, whole::wide),
@@ -41,7 +41,8 @@ pub const FAMILIES: &[Family] = &[
     Family::of("heights at the limits", 12, heights::at_the_limits),
     Family::of("unfit cells", 12, heights::unfit),
     Family::of("grids short and long", 9, bad::grid_of_another_length),
-    Family::of("templates damaged", 14, bad::damaged_template),
+    Family::of("templates damaged", 12, bad::damaged_template),
+    Family::of("templates mistyped", 5, bad::mistyped_template),
     Family::of("templates cut short", 3, bad::short_template),
     Family::of("bad input", 5, bad::input),
 ];

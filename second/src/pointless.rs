@@ -94,7 +94,7 @@ impl Place {
 
     /// A zero is zero wherever its point is.
     fn tells(&self, block: &[u8]) -> bool {
-        self.name == ANGLE || number::real(self.field(block)).1 != 0
+        self.name == ANGLE || number::real(self.field(block)).value != 0
     }
 
     fn taken_name(&self, family: i64, exponent: bool) -> String {
@@ -132,7 +132,7 @@ pub fn shown(family: i64, record: Record, block: &[u8], (kind, byte): Fault) -> 
             names.push(place.taken_name(family, exponent));
         }
         if kind != DONE && place.first == byte as usize {
-            let by_rule = kind == OUT_OF_RANGE && number::real(field).0 == number::FINE;
+            let by_rule = kind == OUT_OF_RANGE && number::real(field).kind == number::FINE;
             names.push(place.refused_name(family, kind, by_rule));
         }
     }

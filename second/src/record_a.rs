@@ -3,18 +3,16 @@
 //! family is what the caller says it is: some blocks obey the rules of both (READINGS-02, 2.17).
 
 use crate::block::{
-    blank, demand, integer_within, real, stretch, Fault, BLOCK_LENGTH, HUNDREDTH, REAL_WIDTH,
-    SPACING_WIDTH, UNIT,
+    blank, demand, integer_within, real, real_form, stretch, Fault, BLOCK_LENGTH, HUNDREDTH,
+    REAL_WIDTH, SPACING_WIDTH, UNIT,
 };
 use crate::corner_text::{angle, LATITUDE, LONGITUDE};
 pub use crate::family::MOST;
 use crate::family::{is_ground_spacing, rules_of, Rules, USGS};
 use crate::kind::{
-    CORNER_DISAGREES, OUT_OF_RANGE, UNSOUND, WRONG_CODE, WRONG_FORM, WRONG_LENGTH, WRONG_PLACE,
-    WRONG_TEXT,
+    CORNER_DISAGREES, OUT_OF_RANGE, UNSOUND, WRONG_CODE, WRONG_LENGTH, WRONG_PLACE, WRONG_TEXT,
 };
 use crate::lattice::Axis;
-use crate::number;
 
 /// What a loader keeps of block 0 (READINGS 24), and the family it was read as. Reals are in
 /// billionths.
@@ -143,11 +141,10 @@ fn check_text(
     demand(all_permitted, WRONG_TEXT, first)
 }
 
-/// Only their form is judged: a number too large or too fine passes (READINGS 11).
+/// The fifteen whose values do not count.
 fn check_projection_reals(block: &[u8]) -> Result<(), Fault> {
     for first in (169..=505).step_by(REAL_WIDTH) {
-        let (kind, _) = number::real(stretch(block, first, first + REAL_WIDTH - 1));
-        demand(kind != WRONG_FORM, WRONG_FORM, first)?;
+        real_form(block, first, REAL_WIDTH)?;
     }
     Ok(())
 }

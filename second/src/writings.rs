@@ -4,11 +4,12 @@
 use crate::block::{stretch, Record, BLOCK_LENGTH};
 use crate::desk::{Call, Writing};
 use crate::dice::Dice;
+use crate::family::USGS;
 use crate::kind::WRONG_LENGTH;
 use crate::orders::heights::unfit_cell;
 use crate::orders::{self, whole};
 use crate::record_a;
-use crate::sheets::damage::damaged;
+use crate::sheets::damage::{damaged, mistype_a_spot};
 use crate::sheets::Sent;
 use crate::write;
 
@@ -197,8 +198,12 @@ fn with_faults(dice: &mut Dice, faults: &[usize]) -> (Writing, usize) {
     (writing, count)
 }
 
-/// Some damage leaves a template valid, and is tried again.
-fn damaged_template(dice: &mut Dice, template: Vec<u8>) -> Vec<u8> {
+/// A number mistyped, or other damage; some leaves a template valid, and is tried again.
+fn damaged_template(dice: &mut Dice, mut template: Vec<u8>) -> Vec<u8> {
+    if dice.one_in(3) {
+        mistype_a_spot(dice, USGS, Record::Header, &mut template);
+        return template;
+    }
     let sent = Sent {
         record: Record::Header,
         bytes: template,

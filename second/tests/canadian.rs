@@ -178,25 +178,37 @@ fn stretches() {
     }
 }
 
-/// 2.5: six number fields, not text: a stray letter in them is of wrong form, at its field.
+/// 2.5: six number fields, not text: a stray letter in them is of wrong form. Where it stands is
+/// counted from the front by 6.2, 6.4: a blank behind the digits of degrees or minutes, or behind
+/// a sign; the last byte of a blank field, 113 for the degrees ("Across the requests", 2 + 6); any
+/// byte that no number has.
 #[test]
 fn corner_fields() {
     check_rows(&[
-        (110, "-75 ", (6, 110)),
-        (110, "    ", (6, 110)),
-        (113, "a", (6, 110)),
-        (113, "A", (6, 110)),
-        (110, "- 75", (6, 110)),
-        (114, "  ", (6, 114)),
-        (114, "3 ", (6, 114)),
-        (115, "x", (6, 114)),
-        (116, "       ", (6, 116)),
-        (116, "0.0000e", (6, 116)),
-        (116, "0.0e0  ", (6, 116)),
-        (122, "a", (6, 116)),
-        (123, "45  ", (6, 123)),
-        (127, "- ", (6, 127)),
-        (129, "0,0000 ", (6, 129)),
+        (110, "-75 ", (6, 113)),
+        (110, "    ", (6, 113)),
+        (113, "a", (6, 113)),
+        (113, "A", (6, 113)),
+        (110, "- 75", (6, 111)),
+        (110, "x", (6, 110)),
+        (111, "+", (15, 110)),
+        (112, "-", (6, 112)),
+        (114, "  ", (6, 115)),
+        (114, "3 ", (6, 115)),
+        (114, "x", (6, 114)),
+        (115, "x", (6, 115)),
+        (116, "       ", (6, 122)),
+        (116, "0.0000e", (6, 122)),
+        (116, "0.0e0  ", (6, 119)),
+        (116, "0.0 0  ", (6, 120)),
+        (116, "1.D+   ", (6, 120)),
+        (122, "a", (6, 122)),
+        (123, "45  ", (6, 125)),
+        (123, "    ", (6, 126)),
+        (127, "- ", (6, 128)),
+        (127, "  ", (6, 128)),
+        (129, "0,0000 ", (6, 130)),
+        (129, "       ", (6, 135)),
         // Within a field: form, then the reading's own 7 and 8, then the range.
         (116, "1.D-10 ", (8, 116)),
         (116, ".5D-9  ", (8, 116)),
@@ -387,9 +399,10 @@ fn spacings_that_are_none() {
         // What the readings refuse stands at its own field.
         (829, "      1.D-10", (8, 829)),
         (829, "       1.D+9", (7, 829)),
-        (829, "            ", (6, 829)),
         (817, "      1.D-10", (8, 817)),
-        (817, "0.75.       ", (6, 817)),
+        // READINGS-02, 6.4 and 6.5: a blank field's last byte, a second point itself.
+        (829, "            ", (6, 840)),
+        (817, "0.75.       ", (6, 821)),
         (817, "  0.750000E0", (0, 0)),
     ]);
     let mut block = ottawa();
@@ -445,14 +458,16 @@ fn codes() {
         (859, "     1", (7, 859)),
         (859, "     0", (7, 859)),
         (859, " 01201", (0, 0)),
-        (859, "1201  ", (6, 859)),
+        // READINGS-02, 6.4: an integer may not be followed by a blank.
+        (859, "1201  ", (6, 863)),
         // z keeps 01's rule in metres; angle and the fifteen reals keep theirs.
         (841, "        0.01", (0, 0)),
         (841, "       0.015", (7, 841)),
         (841, "         2.0", (7, 841)),
         (787, "                   1.D-9", (9, 787)),
         (169, "1D99", (0, 0)),
-        (169, "   ", (6, 169)),
+        // READINGS-02, 6.2: blank, so its last byte.
+        (169, "   ", (6, 192)),
         (739, "                    -99.", (0, 0)),
         (739, "                   1.D+9", (7, 739)),
     ]);
@@ -808,7 +823,8 @@ fn usgs_sheets_keep_their_size() {
     let header = check_of(USGS, &blocks[0]).expect("valid");
     assert_eq!(header, check(&blocks[0]).expect("valid"));
     assert_eq!((header.columns().count(), header.rows().count()), (2, 3));
-    assert_eq!(record_a::check_of(CANADIAN, &blocks[0]), Err((6, 110)));
+    // Blank degrees ("Across the requests", 2 + 6).
+    assert_eq!(record_a::check_of(CANADIAN, &blocks[0]), Err((6, 113)));
 }
 
 /// 9,609 blocks and 1,442,401 cells, each at the height of its column and row.
@@ -904,9 +920,10 @@ fn a_press_on_a_fresh_state() {
     assert_eq!(frames::press(USGS, &line[..1030]), "unfinished 1\n");
     assert_eq!(frames::press(USGS, b""), "unfinished 0\n");
     let line = frames::line_of(&[ottawa(), ottawa()].concat());
+    // Its name begins with `031g05`, and a profile with an integer.
     assert_eq!(
         frames::press(CANADIAN, &line),
-        "refused 6 1 1\nunfinished 1\n"
+        "refused 6 1 4\nunfinished 1\n"
     );
     assert_eq!(
         frames::press(USGS, &line),
@@ -974,7 +991,7 @@ fn inputs_break_every_rule() {
         (7, 859),
     ];
     wanted.extend([1, 41, 101, 136, 137, 138, 865].map(|byte| (5, byte)));
-    wanted.extend([110, 114, 116, 123, 127, 129].map(|byte| (6, byte)));
+    wanted.extend((110..=135).map(|byte| (6, byte)));
     wanted.extend([114, 116, 127, 129].map(|byte| (7, byte)));
     wanted.extend([116, 129].map(|byte| (8, byte)));
     wanted.extend([145, 157, 163, 529, 535, 811, 853].map(|byte| (9, byte)));

@@ -1,9 +1,18 @@
-//! The readings of number.rs on the edge examples and on values spelled out and read back.
+//! The readings of number.rs, kind and value, on the edge examples and on values spelled out and
+//! read back. The very byte is for tests/very_byte.rs.
 
 use second::dice::Dice;
 use second::examples::{Example, INTEGERS, POINTLESS_REALS, REALS};
-use second::number::{integer, real};
+use second::number;
 use second::texts::FAMILIES;
+
+fn integer(field: &[u8]) -> (u32, i64) {
+    number::integer(field).kind_and_value()
+}
+
+fn real(field: &[u8]) -> (u32, i64) {
+    number::real(field).kind_and_value()
+}
 
 fn check(examples: &[Example], reading: fn(&[u8]) -> (u32, i64)) {
     for &(text, kind, value) in examples {

@@ -101,32 +101,39 @@ fn first_profile_with(texts: &[(usize, &str)]) -> Answer {
 fn fields_of_a_profile() {
     for (first, text, kind) in [
         (1, "     2", 9),
-        (1, "1     ", 6),
         (7, "     2", 9),
         (7, "     0", 9),
         (13, "     0", 7),
         (13, "  2049", 7),
-        (13, "      ", 6),
         (19, "     0", 9),
-        (25, "6OO.0", 6),
         (25, "1.D9 ", 7),
         (49, "1.D-9", 10),
         (49, ".1D-9", 8),
         (73, "10000.01", 7),
         (73, "0.001", 7),
         (73, ".1D-9", 8),
-        (97, "1.0d1", 6),
         (121, "1.D9", 7),
         (145, "-32768", 7),
         (151, " 32768", 7),
-        (157, "    1 ", 6),
         (163, "     1", 5),
     ] {
         let answer = first_profile_with(&[(first, text)]);
         assert_eq!(answer, refused(kind, 1, first as u32), "{text} at {first}");
     }
+    // Of wrong form, so counted on to the very byte (READINGS-02, 6.4, 6.5).
+    for (first, text, byte) in [
+        (1, "1     ", 2),
+        (13, "      ", 18),
+        (25, "6OO.0", 26),
+        (97, "1.0d1", 100),
+        (157, "    1 ", 162),
+    ] {
+        let answer = first_profile_with(&[(first, text)]);
+        assert_eq!(answer, refused(6, 1, byte), "{text} at {first}");
+    }
     assert_eq!(first_profile_with(&[(1024, "X")]), refused(5, 1, 163));
-    assert_eq!(first_profile_with(&[(13, "     4")]), refused(6, 1, 163));
+    // The fourth post is blank: its last byte.
+    assert_eq!(first_profile_with(&[(13, "     4")]), refused(6, 1, 168));
     assert_eq!(first_profile_with(&[(13, "     2")]), refused(5, 1, 157));
 }
 
@@ -310,8 +317,9 @@ fn record_c() {
     assert_eq!(answer_to(&block), Answer::Taken);
     put(&mut block, 1024, "X");
     assert_eq!(answer_to(&block), refused(5, 3, 61));
+    // The blank behind the digit (READINGS-02, 6.4).
     put(&mut block, 55, "0     ");
-    assert_eq!(answer_to(&block), refused(6, 3, 55));
+    assert_eq!(answer_to(&block), refused(6, 3, 56));
 }
 
 #[test]

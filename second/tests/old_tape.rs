@@ -125,7 +125,7 @@ fn reals_that_comparisons_count() {
 
 /// The field's value once more, without a point; None where no such text fits.
 fn without_point(dice: &mut Dice, field: &[u8]) -> Option<Vec<u8>> {
-    let (kind, value) = number::real(field);
+    let (kind, value) = number::real(field).kind_and_value();
     assert_eq!(kind, number::FINE);
     let digits = value.unsigned_abs().to_string();
     let width = field.len();

@@ -147,7 +147,8 @@ fn a_damaged_block_behind_others() {
     let astray = format!("{:24}", "631.0");
     for (byte, text, kind, named) in [
         (200, "X", 5, 157),
-        (145, "    1x", 6, 145),
+        // READINGS-02, 6.5, and "3 + 6": the letter itself, as for a single delivery.
+        (145, "    1x", 6, 150),
         (13, "     0", 7, 13),
         (151, "-32768", 7, 151),
         (73, &fine, 8, 73),

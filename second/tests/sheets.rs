@@ -20,7 +20,7 @@ fn numbers_read_back_from_every_hand() {
     for _ in 0..30_000 {
         let value = dice.between(-99_999, 99_999);
         assert_eq!(
-            number::integer(&hand::integer(&mut dice, value)),
+            number::integer(&hand::integer(&mut dice, value)).kind_and_value(),
             (0, value)
         );
         let digits = 10_i64.pow(dice.size(0, 15) as u32);
@@ -28,14 +28,22 @@ fn numbers_read_back_from_every_hand() {
         let value = dice.between(-digits, digits) * scale;
         if value.abs() < 1_000_000_000 * UNIT {
             let text = hand::real(&mut dice, value, 24);
-            assert_eq!(number::real(&text), (0, value), "{}", text.escape_ascii());
+            assert_eq!(
+                number::real(&text).kind_and_value(),
+                (0, value),
+                "{}",
+                text.escape_ascii()
+            );
         }
         for value in [
             dice.between(1, 9999) * UNIT,
             dice.between(1, 100) * HUNDREDTH,
         ] {
             let text = hand::real(&mut dice, value, 12);
-            assert_eq!((text.len(), number::real(&text)), (12, (0, value)));
+            assert_eq!(
+                (text.len(), number::real(&text).kind_and_value()),
+                (12, (0, value))
+            );
         }
     }
 }

@@ -177,7 +177,8 @@ fn held_and_refused_leave_the_sum() {
         (2, &blocks[2][..1023], told(1, 2, 0)),
         (3, &blocks[2], told(3, 3, 0)),
         (2, &blocks[1], told(9, 2, 7)),
-        (2, &damaged, told(6, 2, 151)),
+        // The letter is the fifth byte of its post (READINGS-02, 6.5).
+        (2, &damaged, told(6, 2, 155)),
     ] {
         assert_eq!(both.deliver(number, block), answer);
         assert_eq!(both.filled_and_sum(), (2, 2200));

@@ -72,7 +72,10 @@ fn written_numbers_read_back() {
         let digits = 10_i64.pow(dice.size(0, 15) as u32);
         let value = dice.between(1 - digits, digits - 1) * 10_i64.pow(dice.size(0, 3) as u32);
         let field = written::real(value);
-        assert_eq!((field.len(), number::real(&field)), (24, (0, value)));
+        assert_eq!(
+            (field.len(), number::real(&field).kind_and_value()),
+            (24, (0, value))
+        );
         let first = field
             .iter()
             .position(|&byte| byte == b'.')
@@ -81,11 +84,17 @@ fn written_numbers_read_back() {
         assert_eq!(field[first] == b'0', value == 0);
         let value = dice.between(-99_999, 999_999);
         let field = written::integer(value);
-        assert_eq!((field.len(), number::integer(&field)), (6, (0, value)));
+        assert_eq!(
+            (field.len(), number::integer(&field).kind_and_value()),
+            (6, (0, value))
+        );
     }
     for units in 1..=9999 {
         let field = written::spacing(units * UNIT);
-        assert_eq!((field.len(), number::real(&field)), (12, (0, units * UNIT)));
+        assert_eq!(
+            (field.len(), number::real(&field).kind_and_value()),
+            (12, (0, units * UNIT))
+        );
     }
 }
 

@@ -10,6 +10,7 @@ use Rattle.desk.proofs.dem_family_record_a_byte.Reads as dem-family-rec
 use Rattle.desk.proofs.dem_family_origin.Reads as dem-family-origin·told
 use Rattle.desk.proofs.dem_family_columns.Reads as dem-family-columns·told
 use Rattle.desk.proofs.dem_family_rows.Reads as dem-family-rows·told
+use Rattle.desk.proofs.dem_integer_byte.Reads as dem-integer-byte·told
 use Rattle.desk.proofs.dem_integer_kind.Reads as dem-integer-kind·told
 use Rattle.desk.proofs.dem_integer_value.Reads as dem-integer-value·told
 use Rattle.desk.proofs.dem_is_complete.Reads as dem-is-complete·told
@@ -17,6 +18,7 @@ use Rattle.desk.proofs.dem_is_sound.Reads as dem-is-sound·told
 use Rattle.desk.proofs.dem_name_length.Reads as dem-name-length·told
 use Rattle.desk.proofs.dem_open.Reads as dem-open·told
 use Rattle.desk.proofs.dem_origin.Reads as dem-origin·told
+use Rattle.desk.proofs.dem_real_byte.Reads as dem-real-byte·told
 use Rattle.desk.proofs.dem_real_kind.Reads as dem-real-kind·told
 use Rattle.desk.proofs.dem_real_value.Reads as dem-real-value·told
 use Rattle.desk.proofs.dem_record_a_byte.Reads as dem-record-a-byte·told
@@ -32,11 +34,17 @@ dem-integer-kind κs a z z′ e e′ p q = one-answer p q
 pub dem-integer-value : OneResult dem-integer-value·told.Learnt
 dem-integer-value κs a z z′ e e′ p q = one-answer p q
 
+pub dem-integer-byte : OneResult dem-integer-byte·told.Learnt
+dem-integer-byte κs a z z′ e e′ p q = one-answer p q
+
 pub dem-real-kind : OneResult dem-real-kind·told.Learnt
 dem-real-kind κs a z z′ e e′ p q = one-answer p q
 
 pub dem-real-value : OneResult dem-real-value·told.Learnt
 dem-real-value κs a z z′ e e′ p q = one-answer p q
+
+pub dem-real-byte : OneResult dem-real-byte·told.Learnt
+dem-real-byte κs a z z′ e e′ p q = one-answer p q
 
 pub dem-family-record-a-kind : OneResult dem-family-record-a-kind·told.Learnt
 dem-family-record-a-kind κs a z z′ e e′ p q = one-answer p q

@@ -34,6 +34,15 @@ pub extern "C" fn dem_integer_value(field: &[u8]) -> i64
     r.value
 }
 
+// The byte of a field of wrong form, counted from 1, that first makes its form impossible; 0 for every other kind.
+#[no_mangle]
+pub extern "C" fn dem_integer_byte(field: &[u8]) -> u32
+    ensures { λ r. ⌜ r ≡ integer (now (field .entry)) .byte ⌝ }
+{
+    let r = number::read_integer(field);
+    r.byte as u32
+}
+
 // 0, or document 01's number of the refusal.
 #[no_mangle]
 pub extern "C" fn dem_real_kind(field: &[u8]) -> u32
@@ -50,6 +59,15 @@ pub extern "C" fn dem_real_value(field: &[u8]) -> i64
 {
     let r = number::read_real(field);
     r.value
+}
+
+// As `dem_integer_byte`.
+#[no_mangle]
+pub extern "C" fn dem_real_byte(field: &[u8]) -> u32
+    ensures { λ r. ⌜ r ≡ real (now (field .entry)) .byte ⌝ }
+{
+    let r = number::read_real(field);
+    r.byte as u32
 }
 
 // 0, or the number of the first rule of a family's record A that the block breaks; 2 for a family that there is none of.

@@ -17,7 +17,7 @@ use Rattle.field.specs.Rules.FirstBroken.{here, later}
 -- the fault of the first broken rule, and f where all are kept
 abbrev pub brokenOr : List ℕ → List Clause → Fault → Fault
 brokenOr block [] f = f
-brokenOr block (c ∷ cs) f = cond (c .kept block) (brokenOr block cs f) (fault (c .kind) (c .byte))
+brokenOr block (c ∷ cs) f = cond (c .kept block) (brokenOr block cs f) (fault (c .kind) (c .byte block))
 
 pub first-append : (block : List ℕ) (xs ys : List Clause) (f : Fault)
     → brokenOr block (xs ++ ys) f ≡ brokenOr block xs (brokenOr block ys f)
@@ -52,7 +52,7 @@ keeps-first none f = refl
 keeps-first (more k ks) f = rw k (keeps-first ks f)
 
 pub broken-first : {block : List ℕ} {c : Clause} {cs : List Clause} → FirstBroken block c cs → (f : Fault)
-    → brokenOr block cs f ≡ fault (c .kind) (c .byte)
+    → brokenOr block cs f ≡ fault (c .kind) (c .byte block)
 broken-first {block} {c} (here n) f = by-test (c .kept block) (λ e. absurd (n e)) (λ e. rw e)
 broken-first (later k b) f = rw k (broken-first b f)
 
@@ -62,7 +62,7 @@ broken-named (later {d} {cs} k b) t = broken-named b (and-second (named d) (all 
 
 -- ---- a fault that is the first broken rule's
 module _ (block : List ℕ) (cs : List Clause) (f : Fault) (is : f ≡ brokenOr block cs (fault 0 0)) (t : all named cs ≡ true) where
-  pub fault-first : (c : Clause) → FirstBroken block c cs → f ≡ fault (c .kind) (c .byte)
+  pub fault-first : (c : Clause) → FirstBroken block c cs → f ≡ fault (c .kind) (c .byte block)
   fault-first c b = is ∙ broken-first b (fault 0 0)
 
   pub fault-exactly : (f .kind ≡ 0) ↔ KeepsAll block cs

@@ -1,6 +1,6 @@
 -- Document 01: a field of a block, its limits, and the one place where a reading at a byte becomes a fault.
 use mathlib.Core.Bool.{Bool, not, false, cond}
-use Prim.Native.Nat.{ℕ, _-_, _%_}
+use Prim.Native.Nat.{ℕ, _+_, _-_, _%_}
 use lib.Dec.{leb, eqb}
 use mathlib.Core.List.{List, [], _∷_}
 use lib.ListN.{take, drop}
@@ -55,9 +55,13 @@ ranged l r = cond (eqb (r .kind) 0) (cond (inLimits l (r .value)) r (refused (l 
 abbrev pub fault : ℕ → ℕ → Fault
 fault kind byte = record { kind = kind; byte = byte }
 
--- the fault of a field, or the first of those behind it
+-- .. but for wrong form, 02, request 6: at the very byte of the field, its first byte + k - 1. A reading of another kind has k = 0.
+abbrev pub placeIn : ℕ → Reading → ℕ
+placeIn first r = first + (r .byte - 1)
+
+-- the fault of a field, by its first byte, or the first of those behind it
 abbrev pub faultOr : Reading → ℕ → Fault → Fault
-faultOr r byte rest = cond (eqb (r .kind) 0) rest (fault (r .kind) byte)
+faultOr r byte rest = cond (eqb (r .kind) 0) rest (fault (r .kind) (placeIn byte r))
 
 -- one field: its first byte and its judged reading
 pub record Judged : Type 0 where

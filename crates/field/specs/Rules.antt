@@ -2,7 +2,7 @@
 -- No function goes by them; that a verdict is the first broken rule of its list is proved where the list stands.
 use mathlib.Core.Bool.{Bool, not, true}
 use mathlib.Core.List.{List, [], _∷_, _++_}
-use Prim.Native.Nat.{ℕ, _-_}
+use Prim.Native.Nat.{ℕ, _+_, _-_}
 use lib.Dec.{eqb}
 use lib.ListN.{drop, length}
 use mathlib.Core.Path.{_≡_}
@@ -14,14 +14,14 @@ use Rattle.number.specs.Bytes.{isBlank}
 use Rattle.field.specs.declared.Limits.{Limits}
 use Rattle.field.specs.Field.{inLimits, stretch, isWord, isText}
 
--- a rule: the byte and the kind of its refusal, and whether a block keeps it
+-- a rule: the byte of its refusal, which for a rule of form goes by the block; its kind; and whether a block keeps it
 pub record Clause : Type 0 where
-  pub byte : ℕ
+  pub byte : List ℕ → ℕ
   pub kind : ℕ
   pub kept : List ℕ → Bool
 
 abbrev pub clause : ℕ → ℕ → (List ℕ → Bool) → Clause
-clause byte kind kept = record { byte = byte; kind = kind; kept = kept }
+clause byte kind kept = record { byte = λ b. byte; kind = kind; kept = kept }
 
 -- ---- what a field is asked, by its first byte and its width
 
@@ -48,9 +48,13 @@ blankRules first = clause first 5 (λ b. every isBlank (drop (first - 1) b)) ∷
 abbrev pub spared : ℕ → Reading → Bool
 spared kind r = not (eqb (r .kind) kind)
 
+-- a field has its form (6 at its first byte + k - 1, where k is the very byte)
+abbrev pub formClause : ℕ → (List ℕ → Reading) → Clause
+formClause first reading = record { byte = λ b. first + reading b .byte - 1; kind = 6; kept = λ b. spared 6 (reading b) }
+
 -- an integer has its form (6)
 abbrev pub integerForms : ℕ → ℕ → List Clause
-integerForms first width = clause first 6 (λ b. spared 6 (integer (stretch first width b))) ∷ []
+integerForms first width = formClause first (λ b. integer (stretch first width b)) ∷ []
 
 -- .. and then stands in limits: in fixed ones, or in those of one kind that go by another field
 abbrev pub integerBy : ℕ → ℕ → ℕ → (List ℕ → Limits) → List Clause
@@ -62,12 +66,12 @@ integerIn first width l = integerBy first width (l .kind) (λ b. l)
 
 -- of some reals the form alone is asked (6)
 abbrev pub realForms : ℕ → ℕ → List Clause
-realForms first width = clause first 6 (λ b. spared 6 (real (stretch first width b))) ∷ []
+realForms first width = formClause first (λ b. real (stretch first width b)) ∷ []
 
 -- a real has its form (6), is below 1,000,000,000 (7), and no finer than a billionth or 15 digits (8)
 abbrev pub realRules : ℕ → ℕ → List Clause
 realRules first width =
-    clause first 6 (λ b. spared 6 (real (stretch first width b)))
+    formClause first (λ b. real (stretch first width b))
     ∷ clause first 7 (λ b. spared 7 (real (stretch first width b)))
     ∷ clause first 8 (λ b. spared 8 (real (stretch first width b)))
     ∷ []

@@ -6,7 +6,7 @@ ghost use Rattle.laws.specs.Texts.{every};
 ghost use Rattle.number.specs.Bytes.{isBlank};
 ghost use Rattle.number.specs.Integer.{integer};
 ghost use Rattle.number.specs.Real.{real};
-ghost use Rattle.field.specs.Field.{isWord, isText, stretch, wholeAt, limits, postsLimits, inRange, inLimits, ranged, fault, faultOr};
+ghost use Rattle.field.specs.Field.{isWord, isText, stretch, wholeAt, limits, postsLimits, inRange, inLimits, ranged, fault, placeIn, faultOr};
 ghost use Rattle.field.specs.Steps.{isByte};
 
 // A broken rule: its kind and byte. Kind 0: none is broken.
@@ -81,6 +81,7 @@ pub fn read_ranged(l: Limits, r: Reading) -> Reading
     Reading {
         kind: l.kind,
         value: 0,
+        byte: 0,
     }
 }
 
@@ -195,44 +196,59 @@ pub fn stretch_of(block: &[u8], first: usize, width: usize) -> &[u8]
     front_of(&block[start..], width)
 }
 
-// The fault of a field, or the first of those behind it.
-pub fn fault_or(r: Reading, byte: u32, rest: Fault) -> Fault
+// Where a reading is refused: at the field's first byte, or at the very byte of wrong form. A block's bytes are counted in 16 bits here, so that
+// the sum fits whatever is asked.
+fn place_in(byte: u16, r: Reading) -> u32
+    ensures { λ p. ⌜ p ≡ placeIn byte r ⌝ }
+{
+    let first = byte as u32;
+    if r.byte == 0 {
+        return first;
+    }
+    first + ((r.byte - 1) as u32)
+}
+
+// The fault of a field, by its first byte, or the first of those behind it.
+pub fn fault_or(r: Reading, byte: u16, rest: Fault) -> Fault
     ensures { λ f. ⌜ f ≡ faultOr r byte rest ⌝ }
 {
     if r.kind == 0 {
         return rest;
     }
-    Fault { kind: r.kind, byte }
+    Fault {
+        kind: r.kind,
+        byte: place_in(byte, r),
+    }
 }
 
-pub fn integer_at(block: &[u8], byte: u32) -> Reading
+pub fn integer_at(block: &[u8], byte: u16) -> Reading
     ensures { λ r. ⌜ r ≡ integer (stretch byte 6 (now (block .entry))) ⌝ }
 {
     number::read_integer(stretch_of(block, byte as usize, 6))
 }
 
 // A whole number that is not negative; 0 for any other field.
-pub fn whole_at(block: &[u8], byte: u32) -> u64
+pub fn whole_at(block: &[u8], byte: u16) -> u64
     ensures { λ r. ⌜ r ≡ wholeAt byte (now (block .entry)) ⌝ }
 {
     let r = integer_at(block, byte);
     figures::not_negative(r.value)
 }
 
-pub fn real_at(block: &[u8], byte: u32) -> Reading
+pub fn real_at(block: &[u8], byte: u16) -> Reading
     ensures { λ r. ⌜ r ≡ real (stretch byte 24 (now (block .entry))) ⌝ }
 {
     number::read_real(stretch_of(block, byte as usize, 24))
 }
 
 // An integer that was read, in its limits.
-pub fn judge(l: Limits, r: Reading, byte: u32, rest: Fault) -> Fault
+pub fn judge(l: Limits, r: Reading, byte: u16, rest: Fault) -> Fault
     ensures { λ f. ⌜ f ≡ faultOr (ranged l r) byte rest ⌝ }
 {
     fault_or(read_ranged(l, r), byte, rest)
 }
 
-pub fn judge_at(l: Limits, block: &[u8], byte: u32, rest: Fault) -> Fault
+pub fn judge_at(l: Limits, block: &[u8], byte: u16, rest: Fault) -> Fault
     ensures { λ f. ⌜ f ≡ faultOr (ranged l (integer (stretch byte 6 (now (block .entry))))) byte rest ⌝ }
 {
     judge(l, integer_at(block, byte), byte, rest)

@@ -58,7 +58,7 @@ module _ (block : List ℕ) (h : length block ≡ 1024) where
     pub posts-exactly : (postsFault n byte block .kind ≡ 0) ↔ KeepsAll block (rulesPosts n byte)
     posts-exactly = fault-exactly block (rulesPosts n byte) (postsFault n byte block) (posts-are n byte i) plain-named
 
-    pub posts-first : (c : Clause) → FirstBroken block c (rulesPosts n byte) → postsFault n byte block ≡ fault (c .kind) (c .byte)
+    pub posts-first : (c : Clause) → FirstBroken block c (rulesPosts n byte) → postsFault n byte block ≡ fault (c .kind) (c .byte block)
     posts-first = fault-first block (rulesPosts n byte) (postsFault n byte block) (posts-are n byte i) plain-named
 
     -- .. and the blanks behind them
@@ -74,5 +74,5 @@ module _ (block : List ℕ) (h : length block ≡ 1024) where
     pub block-exactly : (postsRestFault byte n block .kind ≡ 0) ↔ KeepsAll block (rulesBlock byte n)
     block-exactly = fault-exactly block (rulesBlock byte n) (postsRestFault byte n block) block-is block-named
 
-    pub block-first : (c : Clause) → FirstBroken block c (rulesBlock byte n) → postsRestFault byte n block ≡ fault (c .kind) (c .byte)
+    pub block-first : (c : Clause) → FirstBroken block c (rulesBlock byte n) → postsRestFault byte n block ≡ fault (c .kind) (c .byte block)
     block-first = fault-first block (rulesBlock byte n) (postsRestFault byte n block) block-is block-named

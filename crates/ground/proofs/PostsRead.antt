@@ -11,7 +11,7 @@ use lib.ListN.{length, getD}
 use native.Mathlib.Nat.{le-of-suc-le-suc, not-suc-le-zero}
 use Rattle.number.specs.declared.Reading.{Reading}
 use Rattle.number.specs.Integer.{integer}
-use Rattle.field.specs.Field.{stretch, fault}
+use Rattle.field.specs.Field.{stretch, fault, faultOr}
 use Rattle.ground.specs.Posts.{judgePost, postsFault, postsOf, heights, tallyAll}
 use Rattle.ground.specs.declared.Tally.{Tally}
 use Rattle.ground.proofs.Heights.{heights-length, heights-cells}
@@ -35,7 +35,7 @@ module _ (block : List ℕ) (byte m : ℕ) where
   fault-on z = rw (eq-eqb (judgePost (integer (stretch byte 6 block)) .kind) 0 z)
 
   pub fault-stop : (judgePost (integer (stretch byte 6 block)) .kind ≡ 0 → ⊥)
-      → postsFault (suc m) byte block ≡ fault (judgePost (integer (stretch byte 6 block)) .kind) byte
+      → postsFault (suc m) byte block ≡ faultOr (judgePost (integer (stretch byte 6 block))) byte (fault 0 0)
   fault-stop f = rw (ne-eqb (judgePost (integer (stretch byte 6 block)) .kind) 0 f)
 
   -- where no post is at fault, the first is not

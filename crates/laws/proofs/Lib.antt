@@ -12,4 +12,5 @@ pub mod Naturals
 pub mod Cells
 pub mod Lists
 pub mod Told
+pub mod Starts
 pub mod Families

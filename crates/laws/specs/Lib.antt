@@ -3,3 +3,4 @@ pub mod Digits
 pub mod Texts
 pub mod Lists
 pub mod Family
+pub mod Starts

@@ -20,7 +20,7 @@ use Rattle.number.specs.declared.Reading.{Reading}
 use Rattle.number.specs.Integer.{integer}
 use Rattle.number.specs.Real.{real}
 use Rattle.number.specs.Grammar.{IntegerMeans, RealMeans}
-use Rattle.number.proofs.Grammar.{integer-means, real-means}
+use Rattle.number.proofs.Grammar.{integer-means, integer-pointed, real-means, real-pointed}
 use Rattle.field.proofs.Ranges.{posts-kind}
 use Rattle.field.specs.Field.{realAt, stretch, restFault, limits, postsLimits, inRange, inLimits, ranged, wholeAt}
 use Rattle.field.specs.declared.Limits.{Limits}
@@ -50,10 +50,16 @@ use Rattle.meaning.proofs.EachPost.{begun-with}
 -- ---- readings of kind 0
 
 pub integer-says : (s : List ℕ) → integer s .kind ≡ 0 → IntegerMeans s (integer s .value)
-integer-says s z = integer-means s (integer s .value) .0 (λ i. record { kind = z i; value = integer s .value }) .1
+integer-says s z =
+    let n : integer s .kind ≡ 6 → ⊥ = λ k. omega (arith, z, k) in
+    let b = integer-pointed s .1 n in
+    integer-means s (integer s .value) .0 (λ i. record { kind = z i; value = integer s .value; byte = b i }) .1
 
 pub real-says : (s : List ℕ) → real s .kind ≡ 0 → RealMeans s (real s .value)
-real-says s z = real-means s (real s .value) .0 (λ i. record { kind = z i; value = real s .value }) .1
+real-says s z =
+    let n : real s .kind ≡ 6 → ⊥ = λ k. omega (arith, z, k) in
+    let b = real-pointed s .1 n in
+    real-means s (real s .value) .0 (λ i. record { kind = z i; value = real s .value; byte = b i }) .1
 
 -- ---- posts
 

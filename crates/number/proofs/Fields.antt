@@ -8,10 +8,11 @@ use lib.Dec.{leb}
 use mathlib.Core.Bool.{true, false, not}
 use native.Mathlib.Omega.{arith}
 use Rattle.laws.proofs.Tests.{and-fails-second}
-use Rattle.number.specs.Integer.{ofLength, refused, integer, integerForm, integerValue, read, unsignedPart}
+use Rattle.number.specs.Integer.{ofLength, refused, wrongForm, integer, integerByte, integerForm, integerValue, read, unsignedPart}
 use Rattle.number.specs.declared.Reading.{Reading}
 use Rattle.number.specs.Bytes.{isEmpty, isBlank, isSign, isDigit, pastOne, pastAll, digits}
-use Rattle.number.specs.Steps.{Past}
+use Rattle.number.specs.Steps.{Past, stoppedAt}
+use Rattle.number.proofs.IntegerBytes.{integer-byte-found}
 use Rattle.number.proofs.Runs.{run-length}
 
 pub within-none : (most : ℕ) (s : List ℕ) (r : Reading) → length s < 1 → ofLength most s r ≡ refused 1
@@ -32,7 +33,7 @@ empty-some [] h = absurd (omega arith)
 empty-some (c ∷ l) h = refl
 
 module _ (s : List ℕ) (h : 1 ≤ length s) (k : length s ≤ 6) where
-  pub integer-wrong : integerForm s ≡ false → integer s ≡ refused 6
+  pub integer-wrong : integerForm s ≡ false → integer s ≡ wrongForm (integerByte s)
   unfolding integer
   integer-wrong f = within-good 6 s _ h k ∙ simp f
 
@@ -45,6 +46,10 @@ module _ (s : List ℕ) (t u : ℕ) (b : Past (pastAll isBlank) s 0 t) (g : Past
   unsigned-is = g .is ∙ ap (pastOne isSign) (b .is)
 
   module _ (n : ℕ) (d : Past (pastAll isDigit) s u n) where
+    -- the byte that a field of wrong form is refused at
+    pub byte-at : integerByte s ≡ stoppedAt n (length s)
+    byte-at = integer-byte-found s n (d .is ∙ ap (pastAll isDigit) unsigned-is)
+
     pub form-none : n ≡ u → integerForm s ≡ false
     form-none e =
         let h : length (digits (drop u s)) ≤ 0 = omega (arith, run-length s u n d) in

@@ -1,6 +1,8 @@
 pub mod Tens
 pub mod Places
 pub mod Runs
+pub mod IntegerBytes
+pub mod RealBytes
 pub mod Fields
 pub mod Scale
 pub mod Powers
@@ -11,4 +13,5 @@ pub mod GrammarValues
 pub mod Grammar
 pub mod PutIn
 pub mod Limits
+pub mod ByteExamples
 pub mod OneAnswer

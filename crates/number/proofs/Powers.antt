@@ -5,17 +5,18 @@ use mathlib.Core.Path.{_≡_, sym, _∙_, ap, subst⁻¹}
 use Prim.Native.Nat.{ℕ, _≤_, _+_, _-_, _<_}
 use native.Mathlib.Omega.{arith}
 use lib.ListN.{length, drop, getD}
-use mathlib.Core.Logic.{_⊎_, inl, inr}
+use lib.Seq.{drop-drop}
 use native.Mathlib.Nat.{lt-of-lt-of-le}
-use borrow.Author.Tests.{le-leb}
+use borrow.Author.Tests.{le-leb, lt-leb}
 use lib.Dec.{leb, lit<}
 use Rattle.laws.specs.Sign.{_and_}
 use Rattle.laws.proofs.Tens.{ten-up}
-use Rattle.laws.proofs.Tests.{clash, and-fails-second}
+use Rattle.laws.proofs.Tests.{clash, and-fails-first, and-fails-second}
 use Rattle.number.specs.Bytes.{isLetter, starts, isSign, isMinus, isDigit, pastOne, pastAll, digits, number}
-use Rattle.number.specs.Steps.{PowerAt, Past, RunAt, Leads, none}
+use Rattle.number.specs.Steps.{PowerAt, Past, RunAt, Leads, none, noPower}
 use Rattle.number.specs.Real.{power}
 use Rattle.number.specs.declared.decimal.Run.{Run}
+use Rattle.number.proofs.Fields.{empty-none, empty-some}
 use Rattle.number.proofs.Places.{one-taken, starts-here}
 use Rattle.number.proofs.Runs.{run-length, number-below}
 use Rattle.number.proofs.GrammarParts.{digits-every}
@@ -27,6 +28,7 @@ power-none s from h e =
     record {
       form = rw e;
       is = λ g. record { past = record { onward = omega arith; inside = h; is = rw e }; minus = rw e; size = rw e; small = omega arith };
+      stops = λ g. clash g;
     }
 
 module _ (s : List ℕ) (from first : ℕ) (r : Run) (here : from < length s) (letter : isLetter (getD s from 0) ≡ true)
@@ -43,14 +45,39 @@ module _ (s : List ℕ) (from first : ℕ) (r : Run) (here : from < length s) (l
   many : length (power (drop from s)) ≡ r .next - first
   many = ap (λ l. length (digits l)) digits-at ∙ run-length s first (r .next) (run .past)
 
-  pub power-wrong : (next : ℕ) → (leb 1 (r .next - first) ≡ false) ⊎ (leb (r .next - first) 2 ≡ false)
-      → PowerAt s from (record { good = false; next = next; minus = false; size = 0 })
-  power-wrong next w = record { form = rw (begins, many) (go w); is = λ g. clash (sym g) }
-    where
-      go : (leb 1 (r .next - first) ≡ false) ⊎ (leb (r .next - first) 2 ≡ false)
-          → false ≡ (leb 1 (r .next - first) and leb (r .next - first) 2)
-      go (inl e) = rw e
-      go (inr e) = sym (and-fails-second (leb 1 (r .next - first)) e)
+  -- no digit: the letter, and its sign, is all that there is of it
+  pub power-no-digit : r .next < first + 1 → PowerAt s from (noPower first)
+  power-no-digit h =
+      let e : length (power (drop from s)) ≤ 0 = omega (arith, many, h) in
+      record {
+        form = rw begins (sym (and-fails-first (leb (length (power (drop from s))) 2) (lt-leb 1 (length (power (drop from s))) (omega (arith, e)))));
+        is = λ g. clash (sym g);
+        stops =
+            λ g.
+            record {
+              onward = omega (arith, sign .onward);
+              inside = sign .inside;
+              is = rw (empty-none (power (drop from s)) e) (sym digits-at);
+            };
+      }
+
+  -- a third digit
+  pub power-third-digit : first + 2 < r .next → PowerAt s from (noPower (first + 2))
+  power-third-digit h =
+      let e : 3 ≤ length (power (drop from s)) = omega (arith, many, h) in
+      record {
+        form =
+            rw begins
+            (sym (and-fails-second (leb 1 (length (power (drop from s)))) (lt-leb (length (power (drop from s))) 2 (omega (arith, e)))));
+        is = λ g. clash (sym g);
+        stops =
+            λ g.
+            record {
+              onward = omega (arith, sign .onward);
+              inside = omega (arith, h, run .past .inside);
+              is = rw (empty-some (power (drop from s)) (omega (arith, e))) (sym (ap (drop 2) digits-at ∙ drop-drop 2 first s));
+            };
+      }
 
   pub power-good : first + 1 ≤ r .next → r .next ≤ first + 2 → (minus : Bool) → minus ≡ starts isMinus (drop (from + 1) s)
       → PowerAt s from (record { good = true; next = r .next; minus = minus; size = r .kept .head })
@@ -70,6 +97,7 @@ module _ (s : List ℕ) (from first : ℕ) (r : Run) (here : from < length s) (l
               size = whole ∙ rw begins (ap (λ l. number 0 (digits l)) (sym digits-at));
               small = omega (arith, whole, below);
             };
+        stops = λ g. clash g;
       }
     where
       below : number 0 (digits (drop first s)) < 100

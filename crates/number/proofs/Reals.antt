@@ -9,20 +9,21 @@ use native.Mathlib.Nat.{add-zero}
 use native.Mathlib.Omega.{arith}
 use Rattle.laws.proofs.Tests.{and-fails-first, and-fails-second, and-both, by-test}
 use Rattle.number.specs.Bytes.{isBlank, isMinus, starts, pastAll, isEmpty, digits, isDigit, number}
-use Rattle.number.specs.Integer.{unsignedPart, refused}
+use Rattle.number.specs.Integer.{unsignedPart, wrongForm}
 use Rattle.number.specs.Grammar.{raised, sunk}
-use Rattle.number.specs.Real.{real, realForm, realValue, mantissaDigits, fractionPart, pastMantissa, powerForm, powerMinus, powerSize, pastPower, decimals, assumed}
-use Rattle.number.specs.Steps.{Past, MantissaAt, PowerAt, ScaledAt, Leads, none, keptAll, readingOf}
+use Rattle.number.specs.Real.{real, realByte, realForm, realValue, mantissaDigits, fractionPart, pastMantissa, powerForm, powerMinus, powerSize, pastPower, decimals, assumed}
+use Rattle.number.specs.Steps.{Past, stoppedAt, powerStop, MantissaAt, PowerAt, ScaledAt, Leads, none, keptAll, readingOf}
 use Rattle.number.specs.declared.decimal.Kept.{Kept}
 use Rattle.number.specs.declared.decimal.Mantissa.{Mantissa}
 use Rattle.number.specs.declared.decimal.Power.{Power}
 use Rattle.number.specs.declared.decimal.Scaled.{Scaled}
 use Rattle.number.proofs.Fields.{within-good, empty-none, empty-some}
 use Rattle.number.proofs.GrammarParts.{digits-every}
+use Rattle.number.proofs.RealBytes.{byte-no-digit, byte-no-power, byte-no-end}
 use Rattle.number.proofs.Scale.{leads-none, leads-all, every-append}
 
 module _ (s : List ℕ) (h : 1 ≤ length s) (k : length s ≤ 24) where
-  pub real-wrong : realForm (unsignedPart s) ≡ false → real s ≡ refused 6
+  pub real-wrong : realForm (unsignedPart s) ≡ false → real s ≡ wrongForm (realByte s)
   unfolding real
   real-wrong f = within-good 24 s _ h k ∙ simp f
 
@@ -31,15 +32,22 @@ module _ (s : List ℕ) (h : 1 ≤ length s) (k : length s ≤ 24) where
   real-good f = within-good 24 s _ h k ∙ simp f
 
 module _ (s : List ℕ) (u : ℕ) (is : drop u s ≡ unsignedPart s) (m : Mantissa) (ma : MantissaAt s u m) where
+  no-digit : m .digits ≡ 0 → isEmpty (mantissaDigits (unsignedPart s)) ≡ true
+  no-digit e = ap (λ l. isEmpty (mantissaDigits l)) (sym is) ∙ empty-none (mantissaDigits (drop u s)) (omega (arith, ma .count, e))
+
+  some-digit : (m .digits ≡ 0 → ⊥) → isEmpty (mantissaDigits (unsignedPart s)) ≡ false
+  some-digit d = ap (λ l. isEmpty (mantissaDigits l)) (sym is) ∙ empty-some (mantissaDigits (drop u s)) (omega (arith, ma .count, d))
+
+  at-power : drop (m .next) s ≡ pastMantissa (unsignedPart s)
+  at-power = ma .past .is ∙ ap pastMantissa is
+
   pub form-no-digit : m .digits ≡ 0 → realForm (unsignedPart s) ≡ false
-  form-no-digit e =
-      let z : isEmpty (mantissaDigits (drop u s)) ≡ true = empty-none (mantissaDigits (drop u s)) (omega (arith, ma .count)) in
-      rw (← is, z)
+  form-no-digit e = rw (no-digit e)
+
+  pub byte-at-digit : m .digits ≡ 0 → realByte s ≡ stoppedAt (m .next) (length s)
+  byte-at-digit e = byte-no-digit s (m .next) (no-digit e) at-power
 
   module _ (p : Power) (pa : PowerAt s (m .next) p) where
-    at-power : drop (m .next) s ≡ pastMantissa (unsignedPart s)
-    at-power = ma .past .is ∙ ap pastMantissa is
-
     form-of-power : p .good ≡ powerForm (pastMantissa (unsignedPart s))
     form-of-power = pa .form ∙ ap powerForm at-power
 
@@ -47,6 +55,10 @@ module _ (s : List ℕ) (u : ℕ) (is : drop u s ≡ unsignedPart s) (m : Mantis
     form-no-power e =
         and-fails-second (not (isEmpty (mantissaDigits (unsignedPart s))))
         (and-fails-first (isEmpty (pastAll isBlank (pastPower (pastMantissa (unsignedPart s))))) (sym form-of-power ∙ e))
+
+    pub byte-at-power : (m .digits ≡ 0 → ⊥) → p .good ≡ false → realByte s ≡ stoppedAt (p .next) (length s)
+    byte-at-power d e =
+        byte-no-power s (p .next) (some-digit d) (sym form-of-power ∙ e) (pa .stops e .is ∙ ap powerStop at-power)
 
     module _ (good : p .good ≡ true) (end : ℕ) (rest : Past (pastAll isBlank) s (p .next) end) where
       at-end : drop end s ≡ pastAll isBlank (pastPower (pastMantissa (unsignedPart s)))
@@ -60,16 +72,16 @@ module _ (s : List ℕ) (u : ℕ) (is : drop u s ≡ unsignedPart s) (m : Mantis
           and-fails-second (not (isEmpty (mantissaDigits (unsignedPart s))))
           (and-fails-second (powerForm (pastMantissa (unsignedPart s))) e)
 
+      pub byte-at-end : (m .digits ≡ 0 → ⊥) → realByte s ≡ stoppedAt end (length s)
+      byte-at-end d = byte-no-end s end (some-digit d) (sym form-of-power ∙ good) at-end
+
       pub form-real : (m .digits ≡ 0 → ⊥) → length s ≤ end → realForm (unsignedPart s) ≡ true
       form-real d l =
           let e : isEmpty (pastAll isBlank (pastPower (pastMantissa (unsignedPart s)))) ≡ true =
           ap isEmpty (sym at-end) ∙ empty-none (drop end s) (omega (arith, length-drop end s))
           in
-          let z : isEmpty (mantissaDigits (unsignedPart s)) ≡ false =
-          ap (λ l. isEmpty (mantissaDigits l)) (sym is) ∙ empty-some (mantissaDigits (drop u s)) (omega (arith, ma .count, d))
-          in
           let w : powerForm (pastMantissa (unsignedPart s)) ≡ true = sym form-of-power ∙ good in
-          rw (z, w, e)
+          rw (some-digit d, w, e)
 
       kept-leads : Leads (number 0 (mantissaDigits (unsignedPart s))) (m .kept)
       kept-leads =

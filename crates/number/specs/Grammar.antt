@@ -115,3 +115,17 @@ pub record IntegerMeans (s : List ℕ) (z : ℤ) : Type 0 where
   pub size : ℕ
   pub form : IntegerText s negative size
   pub value : z ≡ signed negative size
+
+-- a text that has the form, whatever it says: what 02, request 6, calls a permitted field
+pub record SomeInteger (s : List ℕ) : Type 0 where
+  pub negative : Bool
+  pub size : ℕ
+  pub form : IntegerText s negative size
+
+pub record SomeReal (s : List ℕ) : Type 0 where
+  pub negative : Bool
+  pub mantissa : ℕ
+  pub places : ℕ
+  pub lowered : Bool
+  pub power : ℕ
+  pub form : RealText s negative mantissa places lowered power

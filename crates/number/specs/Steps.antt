@@ -7,12 +7,12 @@ use lib.ListN.{length, drop}
 use mathlib.Core.Bool.{true, cond, false, not, Bool}
 use lib.Dec.{ltb, eqb, leb}
 use Rattle.laws.specs.Sign.{signed}
-use Rattle.number.specs.Bytes.{isDigit, pastAll, digits, number}
+use Rattle.number.specs.Bytes.{isDigit, isSign, isLetter, isEmpty, pastOne, pastAll, digits, number}
 use Rattle.number.specs.declared.walk.Whole.{Whole}
 use Rattle.number.specs.declared.decimal.Kept.{Kept}
 use Rattle.number.specs.declared.decimal.Run.{Run}
 use Rattle.number.specs.declared.decimal.Mantissa.{Mantissa}
-use Rattle.number.specs.Real.{mantissaDigits, pastMantissa, fractionPart, hasPoint, pastPower, powerMinus, powerSize, powerForm, billionths}
+use Rattle.number.specs.Real.{mantissaDigits, pastMantissa, fractionPart, hasPoint, power, pastPower, powerMinus, powerSize, powerForm, billionths}
 use Rattle.number.specs.declared.decimal.Power.{Power}
 use Rattle.number.specs.declared.decimal.Scaled.{Scaled}
 use Rattle.number.specs.declared.decimal.Scaled.the-variants.{Exact, Refused}
@@ -24,6 +24,10 @@ pub record Past (after : List ℕ → List ℕ) (s : List ℕ) (from r : ℕ) : 
   pub onward : from ≤ r
   pub inside : r ≤ length s
   pub is : drop r s ≡ after (drop from s)
+
+-- the byte, counted from 1, at a place counted from 0; the last one where the field ends there
+abbrev pub stoppedAt : ℕ → ℕ → ℕ
+stoppedAt next bytes = cond (ltb next bytes) (next + 1) bytes
 
 -- the digits from `from` on: past them, and the number they spell
 pub record WholeAt (s : List ℕ) (from : ℕ) (w : Whole) : Type 0 where
@@ -68,9 +72,17 @@ pub record PowerIs (s : List ℕ) (from : ℕ) (p : Power) : Type 0 where
   pub size : p .size ≡ powerSize (drop from s)
   pub small : p .size < 100
 
+-- where a power of ten that has not its form stops being the start of one: before its first digit, or behind its second
+abbrev pub powerStop : List ℕ → List ℕ
+powerStop x = cond (isEmpty (power x)) (pastOne isSign (pastOne isLetter x)) (drop 2 (pastOne isSign (pastOne isLetter x)))
+
+abbrev pub noPower : ℕ → Power
+noPower next = record { good = false; next = next; minus = false; size = 0 }
+
 pub record PowerAt (s : List ℕ) (from : ℕ) (p : Power) : Type 0 where
   pub form : p .good ≡ powerForm (drop from s)
   pub is : p .good ≡ true → PowerIs s from p
+  pub stops : p .good ≡ false → Past powerStop s from (p .next)
 
 -- the kept digits are those of m
 pub record Leads (m : ℕ) (k : Kept) : Type 0 where

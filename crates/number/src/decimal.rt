@@ -30,6 +30,7 @@ pub(crate) struct Mantissa {
     pub kept: Kept,
 }
 
+// A power of ten; where it has not its form, `next` is the place at which no power goes on.
 pub(crate) struct Power {
     pub good: bool,
     pub next: usize,
@@ -165,12 +166,6 @@ pub(crate) fn read_power(s: &[u8], from: usize) -> Power
         minus: false,
         size: 0,
     };
-    let wrong = Power {
-        good: false,
-        next: from,
-        minus: false,
-        size: 0,
-    };
     if s.len() <= from {
         return none;
     }
@@ -191,10 +186,20 @@ pub(crate) fn read_power(s: &[u8], from: usize) -> Power
     let next = run.next;
     let kept = run.kept;
     if next < first + 1 {
-        return wrong;
+        return Power {
+            good: false,
+            next: first,
+            minus: false,
+            size: 0,
+        };
     }
     if first + 2 < next {
-        return wrong;
+        return Power {
+            good: false,
+            next: first + 2,
+            minus: false,
+            size: 0,
+        };
     }
     Power {
         good: true,

@@ -4,18 +4,20 @@ mod walk;
 
 use decimal::Scaled;
 ghost use mathlib.Core.Path.{_≡_};
-ghost use Prim.Native.Nat.{ℕ, _<_, _^_};
+ghost use Prim.Native.Nat.{ℕ, _<_, _≤_, _^_};
 ghost use lib.IntN.{natAbs};
 ghost use Rattle.laws.specs.Sign.{signed};
-ghost use Rattle.number.specs.Integer.{integer, refused, saysMinus};
+ghost use Rattle.number.specs.Integer.{integer, refused, wrongForm, saysMinus};
 ghost use Rattle.number.specs.Real.{real};
-ghost use Rattle.number.specs.Steps.{readingOf};
+ghost use Rattle.number.specs.Steps.{readingOf, stoppedAt};
 ghost use Rattle.number.specs.Tens.{tenTo};
 
-// Kind 0 is a good reading; any other kind is document 01's number of the refusal, with the value 0.
+// Kind 0 is a good reading; any other kind is document 01's number of the refusal, with the value 0. For wrong form the byte of the field, counted
+// from 1, that first makes the form impossible; 0 for every other kind.
 pub struct Reading {
     pub kind: u32,
     pub value: i64,
+    pub byte: u8,
 }
 
 // Document 01's kinds of a text that is no field.
@@ -26,7 +28,30 @@ const WRONG_FORM: u32 = 6;
 fn refuse(kind: u32) -> Reading
     ensures { λ r. ⌜ r ≡ refused kind ⌝ }
 {
-    Reading { kind, value: 0 }
+    Reading {
+        kind,
+        value: 0,
+        byte: 0,
+    }
+}
+
+// No field goes on as this one does from `next` on, counted from 0; or it ends there, too soon, and its last byte is meant.
+fn wrong_form(next: usize, bytes: usize) -> Reading
+    requires { ⌜ (next ≤ bytes) × (bytes ≤ 24) ⌝ }
+    ensures { λ r. ⌜ r ≡ wrongForm (stoppedAt next bytes) ⌝ }
+{
+    if next < bytes {
+        return Reading {
+            kind: WRONG_FORM,
+            value: 0,
+            byte: (next + 1) as u8,
+        };
+    }
+    Reading {
+        kind: WRONG_FORM,
+        value: 0,
+        byte: bytes as u8,
+    }
 }
 
 // A power of ten, for the reading here and the writing above; 0 past the greatest that they need. Arms and no array: an array is laid out on the
@@ -75,7 +100,7 @@ fn join(minus: bool, size: u64) -> i64
     if minus { -(size as i64) } else { size as i64 }
 }
 
-// The number of an integer field of 1 to 6 bytes; kinds 1 and 6.
+// The number of an integer field of 1 to 6 bytes; kinds 1 and 6. One walk finds the number or the very byte.
 pub fn read_integer(field: &[u8]) -> Reading
     ensures { λ r. ⌜ r ≡ integer (now (field .entry)) ⌝ }
 {
@@ -91,14 +116,15 @@ pub fn read_integer(field: &[u8]) -> Reading
     let w = walk::read_whole(field, u);
     let next = w.next;
     if next == u {
-        return refuse(WRONG_FORM);
+        return wrong_form(next, n);
     }
     if next < n {
-        return refuse(WRONG_FORM);
+        return wrong_form(next, n);
     }
     Reading {
         kind: 0,
         value: join(walk::minus_at(field, t), w.value),
+        byte: 0,
     }
 }
 
@@ -118,6 +144,7 @@ fn settle(minus: bool, s: Scaled) -> Reading
         Scaled::Exact(n) => Reading {
             kind: 0,
             value: join(minus, n),
+            byte: 0,
         },
         Scaled::Refused(k) => refuse(k),
     }
@@ -139,15 +166,16 @@ pub fn read_real(field: &[u8]) -> Reading
     let m = decimal::read_mantissa(field, u);
     let x = m.next;
     if m.digits == 0 {
-        return refuse(WRONG_FORM);
+        return wrong_form(x, n);
     }
     let p = decimal::read_power(field, x);
-    if !p.good {
-        return refuse(WRONG_FORM);
-    }
     let rest = p.next;
-    if walk::past_blanks(field, rest) < n {
-        return refuse(WRONG_FORM);
+    if !p.good {
+        return wrong_form(rest, n);
+    }
+    let end = walk::past_blanks(field, rest);
+    if end < n {
+        return wrong_form(end, n);
     }
     let kept = m.kept;
     let standing = x - m.point;

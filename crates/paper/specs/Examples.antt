@@ -6,7 +6,7 @@ use mathlib.Core.Path.{_≡_}
 use mathlib.Core.List.{List, [], _∷_}
 use Rattle.laws.specs.Texts.{bytes}
 use Rattle.number.specs.declared.Reading.{Reading}
-use Rattle.number.specs.Integer.{integer, read, refused}
+use Rattle.number.specs.Integer.{integer, read, refused, wrongForm}
 use Rattle.number.specs.Real.{real, assumed}
 use Rattle.number.specs.Grammar.{pointBeforeLast}
 use Rattle.lattice.specs.Lattice.{firstMultiple, lastMultiple}
@@ -55,7 +55,7 @@ table =
     ∷ realField ".5D-09" (refused 8)
     ∷ realField "1.0D+09" (refused 7)
     ∷ realField "0.0D+99" (wholes 0)
-    ∷ realField "                        " (refused 6)
+    ∷ realField "                        " (wrongForm 24)
     -- 02, request 4: the field that old tapes carry, and its neighbours
     ∷ realIn 12 "300000E+01" (wholes 3)
     ∷ realField "300000E+01  " (wholes 3)
@@ -83,8 +83,19 @@ table =
     ∷ pointGoes 12 "30" ".000030"
     ∷ pointGoes 7 "600000" "60.0000"
     ∷ pointGoes 10 "300000" ".000000000300000"
-    ∷ integerField "      " (refused 6)
+    ∷ integerField "      " (wrongForm 6)
     ∷ integerField "    -7" (read (negsuc 6))
+    -- 02, request 6: an integer stands right, behind a real there may be blanks; a field that ends too soon has its last byte
+    ∷ integerField "1     " (wrongForm 2)
+    ∷ integerField "    1 " (wrongForm 6)
+    ∷ integerField "99999x" (wrongForm 6)
+    ∷ integerField "     +" (wrongForm 6)
+    ∷ realField "1 .0" (wrongForm 3)
+    ∷ realField "1.0 D+01" (wrongForm 5)
+    ∷ realField "1.0D  " (wrongForm 5)
+    ∷ realField "1.0D" (wrongForm 4)
+    ∷ realField "1.0D+012" (wrongForm 8)
+    ∷ realIn 24 "." (wrongForm 24)
     ∷ latticeStarts (thousandths 549498713) (units 30) (pos (units 549510))
     ∷ latticeStarts (thousandths 3011225379) (units 30) (pos (units 3011250))
     ∷ latticeStarts (negℤ (pos (units 428399))) (units 3) (negℤ (pos (units 428397)))

@@ -107,11 +107,11 @@ module _ {block : List ℕ} {byte n z : ℕ} {datum : ℤ} {t₀ : Tally} {befor
         let g = fault-stop block first (n - (i + 1)) (λ e. bad (sym kind-is ∙ e)) in
         let b : eqb (judgePost (integer (stretch first 6 block)) .kind) 0 ≡ false = ap (λ (k : ℕ). eqb k 0) kind-is ∙ ne-eqb (r .kind) 0 bad in
         let none : goodPosts (n - i) first block ≡ 0 = rw (left, b) in
-        let v : f ≡ fault (r .kind) first = w ∙ rw (ne-eqb (r .kind) 0 bad) in
+        let v : f .kind ≡ r .kind = ap (λ (x : Fault). x .kind) w ∙ rw (ne-eqb (r .kind) 0 bad) in
         record {
-          fault-is = v ∙ sym (sym (p .faults) ∙ rw (left, g, kind-is));
+          fault-is = w ∙ sym (sym (p .faults) ∙ ap (λ (k : ℕ). postsFault k first block) left ∙ g ∙ ap (λ (x : Reading). faultOr x first (fault 0 0)) (sym is));
           scratch-is = over (omega (arith, p .many)) (omega (arith, p .good, none));
-          tally-is = λ k. absurd (bad (ap (λ (x : Fault). x .kind) (sym v) ∙ k));
+          tally-is = λ k. absurd (bad (sym v ∙ k));
         }
 
     module _ (k : r .kind ≡ 0) where

@@ -40,7 +40,11 @@ fn judge_post(r: Reading) -> Reading
     if in_posts(r.value) {
         return r;
     }
-    Reading { kind: 7, value: 0 }
+    Reading {
+        kind: 7,
+        value: 0,
+        byte: 0,
+    }
 }
 
 // The void post is judged before any scaling.
@@ -103,7 +107,7 @@ fn scan_posts(
         let end = start + 6;
         let r = judge_post(six::read_six(&block[start..end]));
         if r.kind != 0 {
-            let f = field::fault_or(r, first as u32, field::no_fault());
+            let f = field::fault_or(r, first as u16, field::no_fault());
             return Scan {
                 kind: f.kind,
                 byte: f.byte,

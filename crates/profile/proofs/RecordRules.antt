@@ -18,7 +18,7 @@ use Rattle.number.specs.declared.Reading.{Reading}
 use Rattle.number.specs.Integer.{integer}
 use Rattle.number.specs.Real.{real}
 use Rattle.field.proofs.Ranges.{posts-kind}
-use Rattle.field.specs.Field.{fault, limits, stretch, wholeAt, realAt, restFault}
+use Rattle.field.specs.Field.{placeIn, fault, limits, stretch, wholeAt, realAt, restFault}
 use Rattle.field.specs.Rules.{Clause, KeepsAll, FirstBroken, clause, integerForms, realRules, blankRules}
 use Rattle.field.proofs.Rules.{brokenOr, named, first-append, broken-named, fault-first, fault-exactly}
 use Rattle.field.proofs.FieldRules.{owned, Says, own-says, form-says, integer-says, integer-field, real-field, Told, told-first, told-all}
@@ -60,7 +60,7 @@ module _ (family number : ℕ) (block : List ℕ) where
   pub head-exactly : (headFault family number block .kind ≡ 0) ↔ KeepsAll block (rulesHead family number)
   head-exactly = fault-exactly block (rulesHead family number) (headFault family number block) head-is head-named
 
-  pub head-first : (c : Clause) → FirstBroken block c (rulesHead family number) → headFault family number block ≡ fault (c .kind) (c .byte)
+  pub head-first : (c : Clause) → FirstBroken block c (rulesHead family number) → headFault family number block ≡ fault (c .kind) (c .byte block)
   head-first = fault-first block (rulesHead family number) (headFault family number block) head-is head-named
 
   -- the same of the answer
@@ -73,7 +73,7 @@ module _ (family number : ℕ) (block : List ℕ) where
     λ k. rw (eq-eqb (headFault family number block .kind) 0 (head-exactly .1 (k .0))) (ap Profile (sym (k .1))),
   )
 
-  pub profile-refused : (c : Clause) → FirstBroken block c (rulesHead family number) → recordB family number block ≡ Refused (c .kind) (c .byte)
+  pub profile-refused : (c : Clause) → FirstBroken block c (rulesHead family number) → recordB family number block ≡ Refused (c .kind) (c .byte block)
   unfolding recordB
   profile-refused c b =
       let n : eqb (c .kind) 0 ≡ false = ne-eqb (c .kind) 0 (broken-named b head-named) in
@@ -103,7 +103,7 @@ module _ (block : List ℕ) where
         own-says block first (integerForms first 6 ++ (clause first 7 tests ∷ [])) (owned (tests block) 7 r)
         (own-says block first (integerForms first 6) r (form-says block first 6 h (omega arith) (omega arith) (omega arith)) 7 tests refl 7 refl)
         9 (λ b. implies (eqb (wholeAt code b) 0) (isZero (integer (stretch first 6 b) .value))) refl 9 refl f
-        ∙ ap (λ (x : Reading). cond (eqb (x .kind) 0) f (fault (x .kind) first)) (error-is (wholeAt code block) r)
+        ∙ ap (λ (x : Reading). cond (eqb (x .kind) 0) f (fault (x .kind) (placeIn first x))) (error-is (wholeAt code block) r)
 
     c-told : Told block accuracyRules (fieldsC block)
     c-told =
@@ -134,5 +134,5 @@ module _ (block : List ℕ) where
   pub record-c-exactly : (recordC block .kind ≡ 0) ↔ KeepsAll block rulesC
   record-c-exactly = fault-exactly block rulesC (recordC block) c-is c-named
 
-  pub record-c-first : (c : Clause) → FirstBroken block c rulesC → recordC block ≡ fault (c .kind) (c .byte)
+  pub record-c-first : (c : Clause) → FirstBroken block c rulesC → recordC block ≡ fault (c .kind) (c .byte block)
   record-c-first = fault-first block rulesC (recordC block) c-is c-named

@@ -65,7 +65,11 @@ fn judge_datum(r: Reading) -> Reading
     if is_datum(r.value) {
         return r;
     }
-    Reading { kind: 7, value: 0 }
+    Reading {
+        kind: 7,
+        value: 0,
+        byte: 0,
+    }
 }
 
 fn reals_fault(s: Reals) -> Fault

@@ -16,18 +16,26 @@ fn judge_error(code: u64, r: Reading) -> Reading
         return r;
     }
     if r.value < 0 {
-        return Reading { kind: 7, value: 0 };
+        return Reading {
+            kind: 7,
+            value: 0,
+            byte: 0,
+        };
     }
     if code != 0 {
         return r;
     }
     if 0 < r.value {
-        return Reading { kind: 9, value: 0 };
+        return Reading {
+            kind: 9,
+            value: 0,
+            byte: 0,
+        };
     }
     r
 }
 
-fn error_at(code: u64, block: &[u8], byte: u32, rest: Fault) -> Fault
+fn error_at(code: u64, block: &[u8], byte: u16, rest: Fault) -> Fault
     ensures { λ f. ⌜ f ≡ faultOr (errorReading code (integer (stretch byte 6 (now (block .entry))))) byte rest ⌝ }
 {
     field::fault_or(
@@ -38,7 +46,7 @@ fn error_at(code: u64, block: &[u8], byte: u32, rest: Fault) -> Fault
 }
 
 // Code, three errors and count, from a byte.
-fn half_fault(block: &[u8], byte: u32, rest: Fault) -> Fault
+fn half_fault(block: &[u8], byte: u16, rest: Fault) -> Fault
     requires { ⌜ byte ≤ 31 ⌝ }
     ensures { λ f. ⌜ f ≡ halfFault byte (now (block .entry)) rest ⌝ }
 {

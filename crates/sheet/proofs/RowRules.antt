@@ -16,7 +16,7 @@ use Rattle.field.specs.Field.{isWord, isText, stretch, wholeAt}
 use Rattle.field.specs.declared.Limits.{Limits}
 use Rattle.field.specs.Rules.{Clause, textRules, mixedRules, fillerRules, integerForms, integerBy, realForms, realRules, realBy}
 use Rattle.field.proofs.Rules.{nonzero}
-use Rattle.field.proofs.FieldRules.{Says, form-says, integer-says, real-says, stepped-says}
+use Rattle.field.proofs.FieldRules.{Says, form-says, integer-says, real-says, stepped-says, text-says, real-alone}
 use Rattle.heading.specs.Heading.{Name, limitsOf, familyLimits}
 use Rattle.heading.specs.Heading.Name.{spacing}
 use Rattle.heading.proofs.LimitKinds.{family-kind}
@@ -63,10 +63,10 @@ suits width (stepped name) = leb width 24 and nonzero (kindOf name)
 module _ (family : ℕ) (block : List ℕ) (first width : ℕ) (h : length block ≡ 1024) (some : 1 ≤ width) (inside : first - 1 + width ≤ 1024) where
   pub rule-says : (r : Rule) → suits width r ≡ true
       → Says block first (clausesOf family first width r) (judge family r (wholeAt 157 block) (wholeAt 535 block) (stretch first width block))
-  rule-says words t = λ f. by-test (every isWord (stretch first width block)) (λ e. rw e) (λ e. rw e)
-  rule-says mixed t = λ f. by-test (every isText (stretch first width block)) (λ e. rw e) (λ e. rw e)
-  rule-says filler t = λ f. by-test (every isBlank (stretch first width block)) (λ e. rw e) (λ e. rw e)
-  rule-says form t = λ f. by-test (eqb (real (stretch first width block) .kind) 6) (λ e. rw e) (λ e. rw e)
+  rule-says words t = text-says block first (λ b. every isWord (stretch first width b))
+  rule-says mixed t = text-says block first (λ b. every isText (stretch first width b))
+  rule-says filler t = text-says block first (λ b. every isBlank (stretch first width b))
+  rule-says form t = real-alone block first width
   rule-says free t = real-says block first width h some inside (leb-true width 24 t)
   rule-says plain t = form-says block first width h some inside (leb-true width 6 t)
   rule-says spaced t =

@@ -97,10 +97,10 @@ module _ (family : ℕ) (k : known family ≡ true) (block : List ℕ) (l : leng
   verdict-kept : KeepsAll block (rulesFor family) → recordOf family block ≡ Sheet (headerOf block)
   verdict-kept k = verdict-is (fault 0 0) (keeps-first k (fault 0 0))
 
-  verdict-broken : {c : Clause} → FirstBroken block c (rulesFor family) → recordOf family block ≡ Refused (c .kind) (c .byte)
+  verdict-broken : {c : Clause} → FirstBroken block c (rulesFor family) → recordOf family block ≡ Refused (c .kind) (c .byte block)
   verdict-broken {c} b =
       let n : eqb (c .kind) 0 ≡ false = ne-eqb (c .kind) 0 (broken-named b (rules-named family k)) in
-      verdict-is (fault (c .kind) (c .byte)) (broken-first b (fault 0 0)) ∙ rw n
+      verdict-is (fault (c .kind) (c .byte block)) (broken-first b (fault 0 0)) ∙ rw n
 
 -- a block without fault is of a family that we know
 pub fine-known : (family : ℕ) (block : List ℕ) → faultOf family block .kind ≡ 0 → known family ≡ true
@@ -126,11 +126,11 @@ module _ (family : ℕ) (k : known family ≡ true) (block : List ℕ) where
   refused-length n = sym (verdict-length family block n)
 
   pub refused-first : (kind y : ℕ) → length block ≡ 1024
-      → (recordOf family block ≡ Refused kind y) ↔ ((c : Clause) × FirstBroken block c (rulesFor family) × (c .kind ≡ kind) × (c .byte ≡ y))
+      → (recordOf family block ≡ Refused kind y) ↔ ((c : Clause) × FirstBroken block c (rulesFor family) × (c .kind ≡ kind) × (c .byte block ≡ y))
   refused-first kind y l = (λ e. go e (kept-or-broken block (rulesFor family)), λ b. verdict-broken family k block l (b .1) ∙ rw (b .2, b .3))
     where
       go : recordOf family block ≡ Refused kind y → KeepsAll block (rulesFor family) ⊎ ((c : Clause) × FirstBroken block c (rulesFor family))
-          → (c : Clause) × FirstBroken block c (rulesFor family) × (c .kind ≡ kind) × (c .byte ≡ y)
+          → (c : Clause) × FirstBroken block c (rulesFor family) × (c .kind ≡ kind) × (c .byte block ≡ y)
       go e (inl a) = not-both (sym (verdict-kept family k block l a) ∙ e)
       go e (inr b) =
           let d = verdict-broken family k block l (b .1) in

@@ -4,7 +4,7 @@ use Prim.Native.Nat.{_+_, _-_, ℕ, zero, suc, _≤_, _<_}
 use lib.Dec.{leb, leb→le, eqb}
 use mathlib.Core.List.{List, [], _∷_, _++_, map}
 use native.Mathlib.Nat.{le-of-suc-le-suc, not-suc-le-zero}
-use mathlib.Core.Path.{_≡_, refl, sym, _∙_, ap}
+use mathlib.Core.Path.{_≡_, refl, sym, _∙_, ap, ap₂}
 use native.Mathlib.Omega.{arith}
 use lib.ListN.{take, drop, length, getD, set, length-set, drop-of-length-le, List·getD-map}
 use lib.IntN.{ℤ, pos}
@@ -98,7 +98,7 @@ module _ (family : ℕ) (block : List ℕ) (values : List ℤ) (from to i : ℕ)
   pub reached-stop : (first : ℕ) → first ≡ rowAt i .first → (r .kind ≡ 0 → ⊥) → faultOr r first (fault 0 0) ≡ firstFault family block (rowsIn from to)
   reached-stop first e f =
       let g : eqb (judgeRow family block (rowAt i) .kind) 0 ≡ false = ap (λ (n : ℕ). eqb n 0) kind-is ∙ ne-eqb (r .kind) 0 f in
-      rw (ne-eqb (r .kind) 0 f) (sym (sym (p .left) ∙ rw (rows-left i to h most, g, kind-is, e)))
+      ap₂ (λ (x : Reading) (n : ℕ). faultOr x n (fault 0 0)) is e ∙ rw g (sym (sym (p .left) ∙ rw (rows-left i to h most, g)))
 
   pub reached-turn : r .kind ≡ 0 → Reached family block (set values i (r .value)) from to (i + 1)
   reached-turn z =

@@ -127,7 +127,7 @@ abbrev pub judge : ℕ → Rule → ℕ → ℕ → List ℕ → Reading
 judge family words s v f = cond (every isWord f) (read (pos 0)) (refused 5)
 judge family mixed s v f = cond (every isText f) (read (pos 0)) (refused 5)
 judge family filler s v f = cond (every isBlank f) (read (pos 0)) (refused 5)
-judge family form s v f = cond (eqb (real f .kind) 6) (refused 6) (read (pos 0))
+judge family form s v f = cond (eqb (real f .kind) 6) (real f) (read (pos 0))
 judge family free s v f = real f
 judge family plain s v f = integer f
 judge family spaced s v f = cond (isCanadian family) (real f) (ranged (limitsOf spacing s v) (real f))

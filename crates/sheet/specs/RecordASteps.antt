@@ -72,7 +72,7 @@ abbrev pub judgeText : ℕ → List ℕ → Reading
 judgeText code f =
     cond (eqb code 0) (cond (every isWord f) (read (pos 0)) (refused 5))
     (cond (eqb code 1) (cond (every isText f) (read (pos 0)) (refused 5))
-    (cond (eqb code 2) (cond (every isBlank f) (read (pos 0)) (refused 5)) (cond (eqb (real f .kind) 6) (refused 6) (read (pos 0)))))
+    (cond (eqb code 2) (cond (every isBlank f) (read (pos 0)) (refused 5)) (cond (eqb (real f .kind) 6) (real f) (read (pos 0)))))
 
 abbrev pub judgeNumber : ℕ → ℕ → Limits → List ℕ → Reading
 judgeNumber family code l f =

@@ -284,27 +284,51 @@ fn judge_words(field: &[u8]) -> Reading
     ensures { λ r. ⌜ r ≡ judge 0 words 0 0 (now (field .entry)) ⌝ }
 {
     if field::all_words(field) {
-        return Reading { kind: 0, value: 0 };
+        return Reading {
+            kind: 0,
+            value: 0,
+            byte: 0,
+        };
     }
-    Reading { kind: 5, value: 0 }
+    Reading {
+        kind: 5,
+        value: 0,
+        byte: 0,
+    }
 }
 
 fn judge_mixed(field: &[u8]) -> Reading
     ensures { λ r. ⌜ r ≡ judge 0 mixed 0 0 (now (field .entry)) ⌝ }
 {
     if field::all_text(field) {
-        return Reading { kind: 0, value: 0 };
+        return Reading {
+            kind: 0,
+            value: 0,
+            byte: 0,
+        };
     }
-    Reading { kind: 5, value: 0 }
+    Reading {
+        kind: 5,
+        value: 0,
+        byte: 0,
+    }
 }
 
 fn judge_filler(field: &[u8]) -> Reading
     ensures { λ r. ⌜ r ≡ judge 0 filler 0 0 (now (field .entry)) ⌝ }
 {
     if field::blank_from(field, 0) {
-        return Reading { kind: 0, value: 0 };
+        return Reading {
+            kind: 0,
+            value: 0,
+            byte: 0,
+        };
     }
-    Reading { kind: 5, value: 0 }
+    Reading {
+        kind: 5,
+        value: 0,
+        byte: 0,
+    }
 }
 
 fn judge_form(field: &[u8]) -> Reading
@@ -312,9 +336,13 @@ fn judge_form(field: &[u8]) -> Reading
 {
     let r = number::read_real(field);
     if r.kind == 6 {
-        return Reading { kind: 6, value: 0 };
+        return r;
     }
-    Reading { kind: 0, value: 0 }
+    Reading {
+        kind: 0,
+        value: 0,
+        byte: 0,
+    }
 }
 
 fn judge_text(code: u8, field: &[u8]) -> Reading
@@ -390,7 +418,7 @@ fn walk(
     while i < to {
         let r = judge_at(family, block, i, system, vertical);
         if r.kind != 0 {
-            return field::fault_or(r, first_byte(i) as u32, field::no_fault());
+            return field::fault_or(r, first_byte(i) as u16, field::no_fault());
         }
         let value = r.value;
         values[i] = value;

@@ -1,5 +1,5 @@
--- An integer field by its last byte that is no digit: what stands before the digits decides, and if it is not of the form nothing is read.
-use mathlib.Core.Bool.{Bool, true, false, not}
+-- An integer field by its last byte that is no digit: what stands before the digits, where that is of the form.
+use mathlib.Core.Bool.{Bool, true, false}
 use mathlib.Core.List.{List, [], _∷_, _++_}
 use mathlib.Core.Path.{_≡_, refl, sym, _∙_, ap}
 use Prim.Native.Nat.{ℕ, _<_}
@@ -8,11 +8,11 @@ use borrow.Author.Tests.{eqb-true, ne-eqb, leb-true}
 use lib.Dec.{eqb, leb}
 use lib.IntN.{ℤ}
 use lib.ListN.{length}
-use Rattle.laws.specs.Sign.{_and_, signed}
+use Rattle.laws.specs.Sign.{signed}
 use Rattle.laws.specs.Texts.{every}
-use Rattle.laws.proofs.Tests.{by-test, clash, split}
+use Rattle.laws.proofs.Tests.{by-test, split}
 use Rattle.number.specs.Bytes.{isBlank, isDigit, isMinus, isSign, isEmpty, starts, pastOne, pastAll, digits, number}
-use Rattle.number.specs.Integer.{refused, read, unsignedPart, integerForm, integerValue, integer}
+use Rattle.number.specs.Integer.{read, unsignedPart, integerForm, integerValue, integer}
 use Rattle.six.specs.Steps.{isFront}
 
 -- ---- a digit is no blank and no sign
@@ -54,17 +54,9 @@ no-minus (d ∷ ds) t = let p = split (isDigit d) (every isDigit ds) t in digit-
 -- ---- a field of six bytes by its form and its value
 
 module _ (s : List ℕ) (long : length s ≡ 6) where
-  pub wrong : integerForm s ≡ false → integer s ≡ refused 6
-  unfolding integer
-  wrong e = rw (long, e)
-
   pub right : (z : ℤ) → integerForm s ≡ true → integerValue s ≡ z → integer s ≡ read z
   unfolding integer
   right z e v = rw (long, e) (ap read v)
-
-none-second : (a b : Bool) → b ≡ false → (a and b) ≡ false
-none-second true b e = e
-none-second false b e = refl
 
 -- past blanks and a sign only digits are left: what they say
 module _ (s ds : List ℕ) (u : unsignedPart s ≡ ds) (t : every isDigit ds ≡ true) where
@@ -74,16 +66,6 @@ module _ (s ds : List ℕ) (u : unsignedPart s ≡ ds) (t : every isDigit ds ≡
   said : (m : Bool) → starts isMinus (pastAll isBlank s) ≡ m → integerValue s ≡ signed m (number 0 ds)
   said m e = rw (e, u, all-digits ds t)
 
--- a byte that is no digit is never passed
-stuck : (q : List ℕ) (c : ℕ) (ds : List ℕ) → isDigit c ≡ false → isEmpty (pastAll isDigit (q ++ (c ∷ ds))) ≡ false
-stuck [] c ds e = rw e
-stuck (x ∷ q) c ds e = by-test (isDigit x) (λ t. rw t (stuck q c ds e)) (λ t. rw t)
-
-unformed : (s q : List ℕ) (c : ℕ) (ds : List ℕ) → unsignedPart s ≡ q ++ (c ∷ ds) → isDigit c ≡ false → integerForm s ≡ false
-unformed s q c ds u e =
-    none-second (not (isEmpty (digits (unsignedPart s)))) (isEmpty (pastAll isDigit (unsignedPart s)))
-    (ap (λ (l : List ℕ). isEmpty (pastAll isDigit l)) u ∙ stuck q c ds e)
-
 -- ---- what stands before
 
 past-front : (p r : List ℕ) → every isBlank p ≡ true → pastAll isBlank (p ++ r) ≡ pastAll isBlank r
@@ -92,33 +74,9 @@ past-front (x ∷ p) r t =
     let q = split (isBlank x) (every isBlank p) t in
     rw (q .0) (past-front p r (q .1))
 
--- blanks and a sign end before byte k where some byte before it is no blank
-unsigned-front : (p r : List ℕ) → every isBlank p ≡ false → unsignedPart (p ++ r) ≡ unsignedPart p ++ r
-unsigned-front [] r t = clash t
-unsigned-front (x ∷ p) r t =
-    by-test (isBlank x) (λ e. rw e (unsigned-front p r (rw e at t)))
-    (λ e. by-test (isSign x) (λ g. rw (e, g)) (λ g. rw (e, g)))
-
-module _ (p : List ℕ) (c : ℕ) (ds : List ℕ) (other : isDigit c ≡ false) where
+module _ (p : List ℕ) (c : ℕ) (ds : List ℕ) where
   abbrev s : List ℕ
   s = p ++ (c ∷ ds)
-
-  blocked : every isBlank p ≡ false → integerForm s ≡ false
-  blocked t = unformed s (unsignedPart p) c ds (unsigned-front p (c ∷ ds) t) other
-
-  -- neither blank nor sign
-  not-front : every isBlank p ≡ true → isFront c ≡ false → integerForm s ≡ false
-  not-front t e =
-      by-test (isBlank c) (λ b. clash (rw b at e))
-      (λ b.
-      let g : isSign c ≡ false = rw b at e in
-      unformed s [] c ds (ap (pastOne isSign) (past-front p (c ∷ ds) t) ∙ rw (b, g)) other)
-
-  pub bad-front : isFront c ≡ false → integerForm s ≡ false
-  bad-front e = by-test (every isBlank p) (λ t. not-front t e) blocked
-
-  pub not-blank : every isBlank p ≡ false → integerForm s ≡ false
-  not-blank = blocked
 
   module _ (blank : every isBlank p ≡ true) (digit : every isDigit ds ≡ true) where
     unsigned-is : isFront c ≡ true → unsignedPart s ≡ ds
@@ -138,18 +96,6 @@ module _ (p : List ℕ) (c : ℕ) (ds : List ℕ) (other : isDigit c ≡ false) 
 
     pub good-front : isFront c ≡ true → isEmpty ds ≡ false → (integerForm s ≡ true) × (integerValue s ≡ signed (isMinus c) (number 0 ds))
     good-front e some = (formed s ds (unsigned-is e) digit some, said s ds (unsigned-is e) digit (isMinus c) (minus-is e))
-
-  -- nothing behind it
-  pub no-digits : ds ≡ [] → integerForm s ≡ false
-  no-digits none =
-      by-test (every isBlank p)
-      (λ t.
-      by-test (isFront c)
-      (λ e.
-      let u = unsigned-is t (ap (every isDigit) none) e ∙ none in
-      rw u)
-      (not-front t))
-      blocked
 
 -- six digits
 pub digits-alone : (ds : List ℕ) → every isDigit ds ≡ true → isEmpty ds ≡ false

@@ -1,9 +1,9 @@
 -- What is known where the digits of a field, read from its last byte back, have ended.
-use mathlib.Core.Bool.{Bool, true, false, cond}
+use mathlib.Core.Bool.{Bool, true, cond}
 use mathlib.Core.List.{List}
 use mathlib.Core.Path.{_≡_}
 use Prim.Native.Nat.{ℕ, suc, _^_, _<_}
-use lib.ListN.{length, drop, getD}
+use lib.ListN.{length, drop}
 use Rattle.laws.specs.Texts.{every}
 use Rattle.number.specs.Bytes.{isBlank, isSign, isDigit, number}
 
@@ -11,11 +11,10 @@ use Rattle.number.specs.Bytes.{isBlank, isSign, isDigit, number}
 abbrev pub isFront : ℕ → Bool
 isFront c = cond (isBlank c) true (isSign c)
 
--- byte k is no digit, and those behind it are, and some
+-- the bytes behind byte k are digits, and there are some
 pub record FrontAsked (s : List ℕ) (k size : ℕ) : Type 0 where
   pub long : length s ≡ 6
   pub some : k < 5
-  pub other : isDigit (getD s k 0) ≡ false
   pub rest : every isDigit (drop (suc k) s) ≡ true
   pub size-is : size ≡ number 0 (drop (suc k) s)
   pub small : size < 2 ^ 63

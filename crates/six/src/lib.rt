@@ -1,4 +1,5 @@
-// An integer field of six bytes, as every post is, read from its last byte back in six written steps; what it answers is number's integer.
+// An integer field of six bytes, as every post is, read from its last byte back in six written steps; what it answers is number's integer. From the
+// end nobody sees which byte first makes a form impossible: a field of wrong form is read again from its first byte.
 use number::Reading;
 ghost use mathlib.Core.Path.{_≡_};
 ghost use Prim.Native.Nat.{_<_, _^_};
@@ -6,7 +7,7 @@ ghost use lib.ListN.{length};
 ghost use Rattle.laws.specs.Sign.{signed};
 ghost use Rattle.laws.specs.Texts.{every};
 ghost use Rattle.number.specs.Bytes.{isBlank, isDigit};
-ghost use Rattle.number.specs.Integer.{integer, refused};
+ghost use Rattle.number.specs.Integer.{integer};
 ghost use Rattle.six.specs.Steps.{isFront, FrontAsked};
 
 fn is_digit(c: u8) -> bool
@@ -28,12 +29,6 @@ fn is_front(c: u8) -> bool
         return true;
     }
     c == 45
-}
-
-fn wrong_form() -> Reading
-    ensures { λ r. ⌜ r ≡ refused 6 ⌝ }
-{
-    Reading { kind: 6, value: 0 }
 }
 
 fn all_blank(s: &[u8]) -> bool
@@ -64,14 +59,15 @@ fn front(field: &[u8], k: usize, size: u64) -> Reading
 {
     let c = field[k];
     if !is_front(c) {
-        return wrong_form();
+        return number::read_integer(field);
     }
     if !all_blank(&field[..k]) {
-        return wrong_form();
+        return number::read_integer(field);
     }
     Reading {
         kind: 0,
         value: join(c == 45, size),
+        byte: 0,
     }
 }
 
@@ -81,7 +77,7 @@ fn from_the_end(field: &[u8]) -> Reading
 {
     let f = field[5];
     if !is_digit(f) {
-        return wrong_form();
+        return number::read_integer(field);
     }
     let ones = (f - 48) as u64;
     let e = field[4];
@@ -112,6 +108,7 @@ fn from_the_end(field: &[u8]) -> Reading
     Reading {
         kind: 0,
         value: join(false, six),
+        byte: 0,
     }
 }
 

@@ -8,7 +8,7 @@ use second::asking::Asking;
 use second::comparing::{arguments, finish, number};
 use second::dice::Dice;
 use second::family::CANADIAN;
-use second::north::{answers, answers_of_runs, North};
+use second::north::{answers, answers_of_runs, spots_wanted, North};
 use second::north::{BROKEN_OFF, BROKEN_OFF_BY_RUNS, ENDS, WHOLE};
 use second::pointless::of_sheets;
 
@@ -21,6 +21,7 @@ const FEWEST_RUNS: usize = 2_000;
 fn send_all(dice: &mut Dice, north: &mut North) {
     north.send_to_crafted(dice);
     north.send_without_points(dice);
+    north.send_mistyped(dice);
     for turn in 0..BROKEN_OFF {
         north.send_broken_off(dice, turn);
     }
@@ -48,6 +49,8 @@ fn main() {
         runs,
         ends,
         pointless,
+        spots,
+        spots_of_runs,
         ..
     } = north;
     println!("deliveries {}", met.all());
@@ -55,8 +58,13 @@ fn main() {
     runs.print("runs", &answers_of_runs());
     ends.print("sheets", &ENDS);
     pointless.print("reals without a point", &of_sheets(CANADIAN));
+    spots.print("wrong form, single blocks", &spots_wanted());
+    spots_of_runs.print("wrong form, runs", &spots_wanted());
     let mut found = met.never_seen(&answers());
     found.extend(pointless.never_seen(&of_sheets(CANADIAN)));
+    found.extend(spots.never_seen(&spots_wanted()));
+    let unseen = spots_of_runs.never_seen(&spots_wanted());
+    found.extend(unseen.iter().map(|name| format!("in runs, {name}")));
     found.extend(runs.answers.never_seen(&answers_of_runs()));
     found.extend(ends.never_seen(&ENDS));
     if ends.all() < FEWEST_SHEETS {

@@ -20,6 +20,7 @@ use second::record_a::{self, Header};
 use second::runs::shown::{self, Look, Seen};
 use second::sheets::damage::damaged;
 use second::sheets::{head, Sent};
+use second::spots;
 use second::writings::{self, Asked};
 
 const USAGE: &str = "compare_desk PROGRAM [SEED]";
@@ -58,6 +59,9 @@ struct Run {
     of_families: Counts,
     /// And about reals without a point; Canadian ones are for compare_canadian to see.
     pointless: Counts,
+    /// Where in their fields faults of form stood: in single blocks, in blocks of runs, and in
+    /// templates for a block and for a sheet.
+    spots: [Counts; 4],
     crafted_runs: Seen,
     runs_of_sheets: Seen,
     /// What runs of both sorts showed.
@@ -87,6 +91,7 @@ impl Run {
             sums: Counts::default(),
             of_families: Counts::default(),
             pointless: Counts::default(),
+            spots: Default::default(),
             crafted_runs: Seen::default(),
             runs_of_sheets: Seen::default(),
             runs: Counts::default(),
@@ -134,6 +139,7 @@ impl Run {
         }
         self.see_sum(&delivery, &left);
         self.see_pointless(&delivery, &left);
+        self.see_spot(BLOCKS, &left);
         for name in of_families::shown(&delivery, &left) {
             self.of_families.see(name);
         }
@@ -166,6 +172,12 @@ impl Run {
         }
     }
 
+    fn see_spot(&mut self, of: usize, left: &Left) {
+        if let Some(name) = spots::shown_by_delivery(&left.numbers, left.told) {
+            self.spots[of].see(name);
+        }
+    }
+
     /// Sound, complete, and a report into too little room, just enough, or more.
     fn ask_about(&mut self, dice: &mut Dice, numbers: &[i64]) {
         let kept = kept::sound(numbers);
@@ -190,6 +202,7 @@ impl Run {
             self.of_sheets.see(name_of(left.told.result));
             self.see_sum(&delivery, &left);
             self.see_pointless(&delivery, &left);
+            self.see_spot(BLOCKS, &left);
             self.desk.ask(delivery.call(&left));
             self.ask_about(&mut ask_dice, &left.numbers);
         });
@@ -213,6 +226,7 @@ impl Run {
 
     fn see_run(&mut self, delivery: &Delivery, left: &Left, seen: fn(&mut Run) -> &mut Seen) {
         if let Some(look) = Look::at(delivery, left) {
+            self.see_spot(RUNS, left);
             seen(self).see(&look);
             for name in shown::shown(&look) {
                 self.runs.see(name);
@@ -257,11 +271,18 @@ impl Run {
     }
 
     fn ask_writer(&mut self, asked: Asked) {
-        let (told, hidden) = match asked.whole {
-            false => (&mut self.blocks, &mut self.hidden),
-            true => (&mut self.sheets, &mut self.hidden_of_sheets),
+        let (told, hidden, spots) = match asked.whole {
+            false => (&mut self.blocks, &mut self.hidden, BLOCK_TEMPLATES),
+            true => (
+                &mut self.sheets,
+                &mut self.hidden_of_sheets,
+                SHEET_TEMPLATES,
+            ),
         };
         told.see(writings::name_of(asked.told));
+        if let Some(name) = spots::shown(USGS, Record::Header, asked.told) {
+            self.spots[spots].see(name);
+        }
         for pair in asked.hidden() {
             hidden.see(pair);
         }
@@ -284,6 +305,9 @@ impl Run {
         self.of_families.print("the family", &of_families::sights());
         self.pointless
             .print("reals without a point", &pointless_wanted());
+        for ((title, wanted), met) in spots_wanted().iter().zip(&self.spots) {
+            met.print(&format!("wrong form, {title}"), wanted);
+        }
         self.sessions.print("sound, complete, report", &SESSIONS);
         self.of_sheets
             .print("whole sheets over a poor line", &answers_of_sheets());
@@ -325,6 +349,10 @@ impl Run {
         found.extend(self.sums.never_seen(&sums::sights()));
         found.extend(self.of_families.never_seen(&of_families::sights()));
         found.extend(self.pointless.never_seen(&pointless_wanted()));
+        for ((title, wanted), met) in spots_wanted().iter().zip(&self.spots) {
+            let unseen = met.never_seen(wanted).into_iter();
+            found.extend(unseen.map(|name| format!("{title}, {name}")));
+        }
         found.extend(self.sessions.never_seen(&SESSIONS));
         found.extend(self.lent.never_seen(&all_lent_names()));
         found.extend(self.of_sheets.never_seen(&answers_of_sheets()));
@@ -398,6 +426,24 @@ fn pointless_wanted() -> Vec<String> {
     let mut names = pointless::of_sheets(USGS);
     names.extend(POINT_GIVEN.map(String::from));
     names
+}
+
+/// Places of `spots`.
+const BLOCKS: usize = 0;
+const RUNS: usize = 1;
+const BLOCK_TEMPLATES: usize = 2;
+const SHEET_TEMPLATES: usize = 3;
+
+/// What is Canadian is for compare_canadian to see.
+fn spots_wanted() -> [(&'static str, Vec<String>); 4] {
+    let all = || spots::wanted(USGS, &Record::ALL);
+    let template = || spots::wanted(USGS, &[Record::Header]);
+    [
+        ("single blocks", all()),
+        ("runs", all()),
+        ("dem_write_block", template()),
+        ("dem_write_sheet", template()),
+    ]
 }
 
 const SESSIONS: [&str; 4] = [

@@ -4,7 +4,8 @@
 
 use second::asking::{ask_all, eight, four, Question};
 use second::comparing;
-use second::number;
+use second::number::{self, Reading};
+use second::texts::shown::Shown as VeryBytes;
 use second::texts::FAMILIES;
 use std::process::exit;
 
@@ -34,8 +35,8 @@ type Tally = [u64; KINDS.len()];
 /// A text with what the second program reads in it.
 struct Readings {
     text: Vec<u8>,
-    integer: (u32, i64),
-    real: (u32, i64),
+    integer: Reading,
+    real: Reading,
 }
 
 impl Readings {
@@ -61,33 +62,60 @@ impl Question for Readings {
         2
     }
 
-    /// Kind and value of an integer, kind and value of a real.
+    /// The reading as an integer, then that as a real.
     fn answer_length(&self) -> usize {
-        24
+        2 * READING_LENGTH
     }
 
     fn demand_same(&self, answer: &[u8]) {
-        let integer = (four(answer, 0), eight(answer, 4));
-        let real = (four(answer, 12), eight(answer, 16));
+        let (integer, real) = (reading_of(answer, 0), reading_of(answer, READING_LENGTH));
         demand_same_reading("integer", &self.text, self.integer, integer);
         demand_same_reading("real", &self.text, self.real, real);
     }
 }
 
-#[derive(Default)]
+/// Kind, value, byte.
+const READING_LENGTH: usize = 16;
+
+fn reading_of(answer: &[u8], at: usize) -> Reading {
+    Reading {
+        kind: four(answer, at),
+        value: eight(answer, at + 4),
+        byte: four(answer, at + 12),
+    }
+}
+
 struct Counts {
     texts: u64,
     integers: Tally,
     reals: Tally,
     pointless: Pointless,
+    bytes: [VeryBytes; 2],
 }
 
 impl Counts {
+    fn new() -> Counts {
+        Counts {
+            texts: 0,
+            integers: Tally::default(),
+            reals: Tally::default(),
+            pointless: Pointless::default(),
+            bytes: [VeryBytes::of_integers(), VeryBytes::of_reals()],
+        }
+    }
+
     fn add(&mut self, readings: &Readings) {
+        let Readings {
+            text,
+            integer,
+            real,
+        } = readings;
         self.texts += 1;
-        count(&mut self.integers, readings.integer.0);
-        count(&mut self.reals, readings.real.0);
-        self.pointless.add(&readings.text, readings.real);
+        count(&mut self.integers, integer.kind);
+        count(&mut self.reals, real.kind);
+        self.pointless.add(text, *real);
+        self.bytes[0].see(text, *integer);
+        self.bytes[1].see(text, *real);
     }
 }
 
@@ -145,9 +173,9 @@ fn names_without_point() -> [&'static str; SHOWN_WITHOUT_POINT.len()] {
 }
 
 impl Pointless {
-    fn add(&mut self, text: &[u8], (kind, value): (u32, i64)) {
-        let place = match kind {
-            0 if value != 0 => 0,
+    fn add(&mut self, text: &[u8], real: Reading) {
+        let place = match real.kind {
+            0 if real.value != 0 => 0,
             7 => 1,
             8 => 2,
             _ => return,
@@ -156,7 +184,7 @@ impl Pointless {
             return;
         }
         self.by_length[text.len()][place] += 1;
-        let sight = sight_of(text, kind);
+        let sight = sight_of(text, real.kind);
         let held = SHOWN_WITHOUT_POINT
             .iter()
             .filter(|(_, holds)| holds(&sight));
@@ -210,7 +238,7 @@ fn sight_of(text: &[u8], kind: u32) -> Sight {
     }
 }
 
-fn demand_same_reading(reading: &str, text: &[u8], second: (u32, i64), desk: (u32, i64)) {
+fn demand_same_reading(reading: &str, text: &[u8], second: Reading, desk: Reading) {
     if second == desk {
         return;
     }
@@ -222,8 +250,9 @@ fn demand_same_reading(reading: &str, text: &[u8], second: (u32, i64), desk: (u3
     };
     println!("mismatch in the {reading} reading of {} bytes", text.len());
     println!("text    \"{}\"{cut}", shown.escape_ascii());
-    println!("second  kind {} value {}", second.0, second.1);
-    println!("desk    kind {} value {}", desk.0, desk.1);
+    for (who, Reading { kind, value, byte }) in [("second", second), ("desk", desk)] {
+        println!("{who:<7} kind {kind} value {value} byte {byte}");
+    }
     exit(1);
 }
 
@@ -242,6 +271,9 @@ fn print_table(counts: &Counts) {
         );
     }
     counts.pointless.print();
+    for bytes in &counts.bytes {
+        bytes.print();
+    }
 }
 
 fn never_seen(tally: &Tally, wanted: &[u32]) -> Vec<u32> {
@@ -274,11 +306,12 @@ fn shortcomings(counts: &Counts) -> Vec<String> {
         }
     }
     found.extend(counts.pointless.shortcomings());
+    found.extend(counts.bytes.iter().flat_map(VeryBytes::never_seen));
     found
 }
 
 fn main() {
-    let mut counts = Counts::default();
+    let mut counts = Counts::new();
     let desk = ask_all(USAGE, USUAL_SEED, FAMILIES, |text| {
         let readings = Readings::of(text);
         counts.add(&readings);

@@ -10,7 +10,7 @@ use second::streams::shown::{names, shown};
 use second::streams::{self, FAMILIES};
 
 const USAGE: &str = "compare_lister PROGRAM [SEED] [SHEETS] [CELLS]";
-const USUAL_SHEETS: usize = 2_000;
+const USUAL_SHEETS: usize = 2_300;
 const FEWEST_SHEETS: usize = 1_000;
 /// Blocks come under their own numbers from a fresh session, so kinds 2 and 3 cannot be.
 const KINDS: [u32; 10] = [1, 4, 5, 6, 7, 8, 9, 10, 11, 12];

@@ -10,8 +10,10 @@ use second::desk::{Call, OfFamily};
 use second::dice::Dice;
 use second::family::{CANADIAN, USGS};
 use second::headers::{canadian, FAMILIES};
+use second::kind::WRONG_FORM;
 use second::pointless;
 use second::record_a;
+use second::spots;
 use std::collections::BTreeMap;
 use std::process::exit;
 
@@ -108,6 +110,8 @@ struct Counts {
     name_lengths: BTreeMap<usize, u64>,
     /// Reals without a point, and what came of them.
     pointless: comparing::Counts,
+    /// Where in their fields faults of form stood.
+    spots: comparing::Counts,
 }
 
 impl Counts {
@@ -116,7 +120,9 @@ impl Counts {
         if found.kind != 0 || self.blocks.is_multiple_of(EVERY_PASSED) {
             see_pointless(&mut self.pointless, USGS, block, (found.kind, found.byte));
         }
-        *self.faults.entry((found.kind, found.byte)).or_default() += 1;
+        let fault = (found.kind, found.byte);
+        see_spot(&mut self.spots, USGS, fault);
+        *self.faults.entry(fault).or_default() += 1;
         *self.origins.entry(found.origin).or_default() += 1;
         *self.name_lengths.entry(found.name_length).or_default() += 1;
     }
@@ -130,18 +136,37 @@ fn see_pointless(seen: &mut comparing::Counts, family: i64, block: &[u8], fault:
     }
 }
 
-/// Every (kind, byte) that the rules of record A can give.
+fn see_spot(seen: &mut comparing::Counts, family: i64, fault: (u32, u32)) {
+    if let Some(name) = spots::shown(family, Record::Header, fault) {
+        seen.see(name);
+    }
+}
+
+/// Every (kind, byte) that the rules of record A can give. Wrong form stands at any byte of a
+/// number, everything else at the first.
 fn faults_that_occur() -> Vec<(u32, u32)> {
     let mut all = vec![(0, 0), (1, 0), (5, 1), (5, 865)];
     all.extend([(10, 547), (10, 817), (10, 859)]);
     let codes = [145, 151, 157, 163, 529, 535, 541, 811, 853];
-    all.extend(codes.iter().flat_map(|&byte| [(6, byte), (9, byte)]));
-    all.extend((0..15).map(|place| (6, 169 + place * 24)));
+    all.extend(codes.map(|byte| (9, byte)));
     let corners = (0..8).map(|place| 547 + place * 24);
     let reals = corners.chain([739, 763, 787, 817, 829, 841]);
-    all.extend(reals.flat_map(|byte| [(6, byte), (7, byte), (8, byte)]));
-    all.extend([(9, 787), (6, 859), (7, 859)]);
+    all.extend(reals.flat_map(|byte| [(7, byte), (8, byte)]));
+    all.extend([(9, 787), (7, 859)]);
+    all.extend(faults_of_form(USGS));
     all
+}
+
+fn faults_of_form(family: i64) -> impl Iterator<Item = (u32, u32)> {
+    let bytes = spots::number_bytes(family, Record::Header);
+    bytes.into_iter().map(|byte| (WRONG_FORM, byte))
+}
+
+/// Those of form are too many for a table; their spots have one.
+fn print_faults(faults: &BTreeMap<(u32, u32), u64>) {
+    for ((kind, byte), times) in faults.iter().filter(|(fault, _)| fault.0 != WRONG_FORM) {
+        println!("{kind:>5} {byte:>5} {times:>8}");
+    }
 }
 
 /// Faults that a run never met, or met though no rule gives them.
@@ -178,9 +203,10 @@ fn shortcomings(counts: &Counts) -> Vec<String> {
 fn print_tables(counts: &Counts) {
     println!("blocks compared {}", counts.blocks);
     println!("{:>5} {:>5} {:>8}", "kind", "byte", "blocks");
-    for ((kind, byte), times) in &counts.faults {
-        println!("{kind:>5} {byte:>5} {times:>8}");
-    }
+    print_faults(&counts.faults);
+    counts
+        .spots
+        .print("wrong form", &spots::wanted(USGS, &[Record::Header]));
     println!("origins {:?}", counts.origins);
     println!("name lengths {:?}", counts.name_lengths);
     counts
@@ -196,6 +222,7 @@ struct OfFamilies {
     origins: BTreeMap<u32, u64>,
     blocks: u64,
     pointless: comparing::Counts,
+    spots: comparing::Counts,
 }
 
 impl OfFamilies {
@@ -208,6 +235,7 @@ impl OfFamilies {
             origins: BTreeMap::new(),
             blocks: 0,
             pointless: comparing::Counts::default(),
+            spots: comparing::Counts::default(),
         }
     }
 
@@ -227,6 +255,7 @@ impl OfFamilies {
         if fault.0 != 0 || self.blocks.is_multiple_of(EVERY_PASSED) {
             see_pointless(&mut self.pointless, CANADIAN, block, fault);
         }
+        see_spot(&mut self.spots, CANADIAN, fault);
         *self.faults.entry(fault).or_default() += 1;
         *self.origins.entry(found.origin).or_default() += 1;
         if found.kind == 0 && record_a::check(block).is_ok() {
@@ -275,9 +304,9 @@ impl OfFamilies {
 
     fn print_tables(&self) {
         println!("Canadian blocks compared {}", self.blocks);
-        for ((kind, byte), times) in &self.faults {
-            println!("{kind:>5} {byte:>5} {times:>8}");
-        }
+        print_faults(&self.faults);
+        self.spots
+            .print("wrong form", &spots::wanted(CANADIAN, &[Record::Header]));
         println!("origins {:?}", self.origins);
         println!("besides {:?}", self.asked);
         self.pointless
@@ -316,13 +345,9 @@ fn canadian_faults() -> Vec<(u32, u32)> {
     let mut all = vec![(0, 0), (1, 0), (15, 110), (10, 547), (10, 817)];
     let stretches = [1, 41, 101, 136, 137, 138, 865];
     all.extend(stretches.map(|byte| (5, byte)));
-    all.extend([110, 123].map(|byte| (6, byte)));
-    all.extend([114, 127].iter().flat_map(|&byte| [(6, byte), (7, byte)]));
-    all.extend(
-        [116, 129]
-            .iter()
-            .flat_map(|&byte| [(6, byte), (7, byte), (8, byte)]),
-    );
+    all.extend([114, 127].map(|byte| (7, byte)));
+    all.extend([116, 129].iter().flat_map(|&byte| [(7, byte), (8, byte)]));
+    all.extend(faults_of_form(CANADIAN));
     let of_usgs = faults_that_occur().into_iter();
     let others = of_usgs.filter(|fault| fault.0 >= 6 && ![(10, 859)].contains(fault));
     all.extend(others);

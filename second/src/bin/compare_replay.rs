@@ -5,12 +5,14 @@
 use second::block::Record;
 use second::comparing::{self, line_difference, Asked, Counts, Mismatch};
 use second::family::USGS;
+use second::kind::WRONG_FORM;
 use second::load::Answer;
-use second::meaning::Figures;
+use second::meaning::{Figures, Refusal};
 use second::pointless;
 use second::replay::{self, Event, Outcome};
 use second::scripts::accident::THE_CUSTOMERS_ACCIDENT;
 use second::scripts::{self, FAMILIES};
+use second::spots;
 use std::collections::BTreeMap;
 
 const USAGE: &str = "compare_replay PROGRAM [SEED] [SCRIPTS]";
@@ -36,6 +38,8 @@ struct Tally {
     sums: Counts,
     /// In how many scripts a real without a point was taken, or refused.
     pointless: Counts,
+    /// Where in their fields faults of form stood.
+    spots: Counts,
 }
 
 impl Tally {
@@ -51,6 +55,9 @@ impl Tally {
             *self.answers.entry(kind).or_default() += 1;
             let place = (event.awaited, kind, byte);
             *self.places.entry(place).or_default() += 1;
+            if let Some(name) = spot_of(event) {
+                self.spots.see(name);
+            }
         }
         if let (Some(event), Some(figures)) = (outcome.events.last(), &outcome.figures) {
             let (kind, _) = kind_and_byte(event);
@@ -61,6 +68,19 @@ impl Tally {
             }
         }
     }
+}
+
+fn spot_of(event: &Event) -> Option<String> {
+    match event.answer {
+        Answer::Refused(refusal) => {
+            spots::shown(USGS, event.awaited?, (refusal.kind, refusal.byte))
+        }
+        _ => None,
+    }
+}
+
+fn spots_wanted() -> Vec<String> {
+    spots::wanted(USGS, &Record::ALL)
 }
 
 /// What a script's last delivery met and what its session line then says.
@@ -97,6 +117,7 @@ fn sums_wanted() -> [&'static str; SUMS.len()] {
     SUMS.map(|(name, _)| name)
 }
 
+/// A fault of form counts for its field here, whichever of the bytes it stands at.
 fn kind_and_byte(event: &Event) -> (i64, u32) {
     match event.answer {
         Answer::Taken => (0, 0),
@@ -108,9 +129,24 @@ fn kind_and_byte(event: &Event) -> (i64, u32) {
                 Some(Record::ProfileRest) => refusal.kind < 11 && refusal.byte >= 1,
                 _ => false,
             };
-            (kind, if among_posts { ANY_BYTE } else { refusal.byte })
+            (
+                kind,
+                if among_posts {
+                    ANY_BYTE
+                } else {
+                    place_of(event, refusal)
+                },
+            )
         }
     }
+}
+
+fn place_of(event: &Event, refusal: Refusal) -> u32 {
+    let field = match (event.awaited, refusal.kind) {
+        (Some(record), WRONG_FORM) => spots::first_of_field(USGS, record, refusal.byte),
+        _ => None,
+    };
+    field.unwrap_or(refusal.byte)
 }
 
 /// The family of script `number` and what it met, or where the program differs.
@@ -203,6 +239,7 @@ fn shortcomings(tally: &Tally) -> Vec<String> {
     let unseen = tally.sums.never_seen(&sums_wanted());
     found.extend(unseen.iter().map(|name| format!("sum {name}")));
     found.extend(tally.pointless.never_seen(&pointless::of_sheets(USGS)));
+    found.extend(tally.spots.never_seen(&spots_wanted()));
     for family in FAMILIES {
         if !tally.families.contains_key(family.name) {
             found.push(format!("no script of family {}", family.name));
@@ -246,6 +283,7 @@ fn print_tables(tally: &Tally) {
         "reals without a point, in scripts",
         &pointless::of_sheets(USGS),
     );
+    tally.spots.print("wrong form", &spots_wanted());
     let accidents = tally.families.get(THE_CUSTOMERS_ACCIDENT).unwrap_or(&0);
     println!("run: {THE_CUSTOMERS_ACCIDENT}, {accidents} times");
 }

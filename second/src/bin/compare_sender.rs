@@ -48,11 +48,10 @@ fn note(made: &Made, expected: &Outcome) -> Note {
         Outcome::Refused { kind, .. } => format!("refused {kind}"),
         Outcome::Sent(_) => "sent".to_string(),
     };
-    let shown = shown(&made.bytes, expected);
     Note {
         family: made.family,
         outcome,
-        shown: shown.into_iter().map(String::from).collect(),
+        shown: shown(&made.bytes, expected),
     }
 }
 
@@ -109,7 +108,7 @@ fn wanted() -> Wanted {
         fewest: FEWEST_SHEETS,
         families: FAMILIES.iter().map(|family| family.name).collect(),
         outcomes: OUTCOMES.map(String::from).to_vec(),
-        shown: names().into_iter().map(String::from).collect(),
+        shown: names(),
     }
 }
 

@@ -4,6 +4,7 @@
 //! kill the state must be one that was whole. Status 0: so it was. Status 1: a difference, or too
 //! little was tried. Usage: poor_line PROGRAM [SEED] [SHEETS]
 
+use second::block::Record;
 use second::button::line::{self, Line};
 use second::button::press::{any_kill, Button, Ended, Kill};
 use second::button::state::{spoilt, State};
@@ -11,6 +12,7 @@ use second::button::{self, Sheet};
 use second::comparing::{self, Asked, Mismatch, Note, Wanted};
 use second::dice::Dice;
 use second::family::USGS;
+use second::spots;
 use std::fs;
 use std::path::Path;
 use std::time::{Duration, Instant};
@@ -335,6 +337,7 @@ fn wanted() -> Wanted {
             .iter()
             .map(|name| name.to_string())
             .chain(kinds)
+            .chain(spots::wanted_past_the_first(USGS, &Record::ALL))
             .collect(),
     }
 }

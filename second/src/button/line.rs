@@ -7,7 +7,8 @@ use crate::family::CANADIAN;
 use crate::kind::{SHEET_COMPLETE, TOO_EARLY, WRONG_LENGTH};
 use crate::meaning::{self, Block, Refusal};
 use crate::sheets::canadian::damaged_header;
-use crate::sheets::damage::damaged;
+use crate::sheets::damage::{damaged, mistype_a_spot};
+use crate::spots;
 
 pub struct Line<'a> {
     sheet: &'a Sheet,
@@ -35,6 +36,9 @@ pub fn poor<'a>(dice: &mut Dice, sheet: &'a Sheet, taken: usize) -> Line<'a> {
         dice.size(next, count)
     };
     while next < end {
+        if next == line.taken {
+            mistype_rare_ones(dice, &mut line);
+        }
         if dice.between(1, 100) <= MISHAPS {
             next = mishap(dice, &mut line, next);
         } else {
@@ -44,6 +48,23 @@ pub fn poor<'a>(dice: &mut Dice, sheet: &'a Sheet, taken: usize) -> Line<'a> {
     }
     ending(dice, &mut line);
     line
+}
+
+/// A sheet has hundreds of blocks of profiles, but one record A and at most one record C: where such
+/// a one is due, it comes some times with a number mistyped first.
+fn mistype_rare_ones(dice: &mut Dice, line: &mut Line) {
+    let due = &line.sheet.sent[line.taken];
+    let times = match due.record {
+        Record::Header => 6,
+        Record::Statistics => 2,
+        Record::ProfileStart | Record::ProfileRest => 0,
+    };
+    for _ in 0..times {
+        let mut bytes = due.bytes.clone();
+        mistype_a_spot(dice, line.sheet.family, due.record, &mut bytes);
+        line.send(line.taken as u32, &bytes);
+        line.note("damaged");
+    }
 }
 
 /// All that is missing, as it should be.
@@ -178,7 +199,15 @@ impl<'a> Line<'a> {
             let refusal = self.refusal_of(bytes).expect("only such damage is sent");
             self.refusals += &refusal.line();
             self.shown.push(format!("refused {}", refusal.kind));
+            self.shown.extend(self.spot_of(refusal));
         }
+    }
+
+    /// Where in its field a fault of form stands in the block that is due.
+    fn spot_of(&self, refusal: Refusal) -> Option<String> {
+        let due = &self.sheet.sent[self.taken];
+        let fault = (refusal.kind, refusal.byte);
+        spots::shown(self.sheet.family, due.record, fault)
     }
 
     fn refuse(&mut self, kind: u32, number: u32) {

@@ -1,16 +1,20 @@
 //! Runs to sessions that no line brought: late blocks, those awaited one after the other, at
 //! times a damaged one, and none at all; twisted in number, length, session and grid.
 
+use super::sessions::{BEGUN, CLOSED, FRESH, INSIDE};
 use super::{alter, awaited, blocks, families, filled_grid, sessions};
-use crate::block::BLOCK_LENGTH;
+use crate::block::{put, BLOCK_LENGTH};
 use crate::desk::Delivery;
 use crate::dice::Dice;
 use crate::kept::{place, Kept, NUMBERS};
 use crate::record_a::MOST;
 use crate::sheets::aimed::damaged_profile_block;
+use crate::sheets::damage::STRANGERS;
 use crate::sheets::head;
+use crate::spots::telling_bytes;
 
 const RUNS: usize = 20_000;
+const SESSIONS_OF_A_STAGE: usize = 4;
 /// Of 2048 profiles with 2048 posts, and a record C: taken never passes it.
 pub const MOST_BLOCKS: usize = 26_626;
 /// Where the stated extremes stand, of the sheet and of the open profile.
@@ -32,7 +36,27 @@ pub fn all(dice: &mut Dice, visit: &mut dyn FnMut(Delivery)) {
         }
         visit(run);
     }
+    for stage in [FRESH, BEGUN, INSIDE, CLOSED] {
+        mistype_the_block_due(dice, stage, visit);
+    }
     visit(the_longest(dice));
+}
+
+/// A stranger in every sort of number, at the first byte, at the last and between, of the block that
+/// sessions of this stage await; at times behind late ones.
+fn mistype_the_block_due(dice: &mut Dice, stage: usize, visit: &mut dyn FnMut(Delivery)) {
+    for _ in 0..SESSIONS_OF_A_STAGE {
+        let mut kept = sessions::of_stage(dice, stage);
+        // So that there is a record C to come.
+        kept.header.accuracy = kept.taken.min(1);
+        let (due, sent) = awaited(dice, &mut kept);
+        for byte in telling_bytes(kept.header.family, sent.record) {
+            let mut run = due.clone();
+            put(&mut run.block, byte, &[*dice.pick(STRANGERS)]);
+            bring_late_ones(dice, &mut run);
+            visit(run);
+        }
+    }
 }
 
 /// Every block that a sheet can have comes once more, and then one that it has not.

@@ -1,6 +1,7 @@
 //! Blocks 0 to compare two checks of a Canadian record A on (02, request 2), family by family of
 //! inputs: valid ones in many spellings, and each rule broken alone and with others.
 
+use super::wrong::mistype;
 use crate::block::{BLOCK_LENGTH, HUNDREDTH, UNIT};
 use crate::corner_text::{LATITUDE, LONGITUDE};
 use crate::dice::Dice;
@@ -25,6 +26,10 @@ pub const FAMILIES: &[Family] = &[
     Family {
         name: "Canadian, every field's texts",
         make: every_field,
+    },
+    Family {
+        name: "Canadian, every field mistyped",
+        make: every_field_mistyped,
     },
     Family {
         name: "Canadian, every byte changed",
@@ -103,6 +108,13 @@ fn every_field(dice: &mut Dice, visit: &mut Visit) {
                 visit(&block);
             }
         }
+    }
+}
+
+fn every_field_mistyped(dice: &mut Dice, visit: &mut Visit) {
+    for field in fields() {
+        let block = any_block(dice);
+        mistype(&field, &block, visit);
     }
 }
 

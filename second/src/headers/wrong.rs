@@ -1,9 +1,9 @@
 //! Valid blocks with fields, bytes or lengths made wrong, and blocks that never were valid.
 
 use super::any_block;
-use crate::block::{Record, BLOCK_LENGTH};
+use crate::block::{stretch, Record, BLOCK_LENGTH};
 use crate::dice::Dice;
-use crate::sheets::damage::{damaged, HEADER_FIELDS};
+use crate::sheets::damage::{damaged, mistypings, Field, HEADER_FIELDS};
 use crate::sheets::{put, Sent};
 use crate::texts::Visit;
 
@@ -17,6 +17,23 @@ pub fn every_field(dice: &mut Dice, visit: &mut Visit) {
                 visit(&block);
             }
         }
+    }
+}
+
+/// Each byte of each field struck wrong in many ways, on a sheet of its own for each field.
+pub fn every_field_mistyped(dice: &mut Dice, visit: &mut Visit) {
+    for field in HEADER_FIELDS {
+        let block = any_block(dice);
+        mistype(&field, &block, visit);
+    }
+}
+
+pub(super) fn mistype(field: &Field, block: &[u8], visit: &mut Visit) {
+    let text = stretch(block, field.first, field.first + field.width - 1);
+    for text in mistypings(text) {
+        let mut block = block.to_vec();
+        put(&mut block, field.first, &text);
+        visit(&block);
     }
 }
 

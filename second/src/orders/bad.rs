@@ -5,9 +5,10 @@ use super::heights::unfit_cell;
 use super::{ground, templates, whole, Order};
 use crate::block::{put, Record, BLOCK_LENGTH, UNIT, USUAL_CELLS};
 use crate::dice::Dice;
+use crate::family::USGS;
 use crate::record_a::{Header, MOST};
 use crate::sheets::aimed::{replace, spoil_a_real, spoil_a_text};
-use crate::sheets::damage::{damaged, fields_of};
+use crate::sheets::damage::{damaged, fields_of, mistype_a_spot};
 use crate::sheets::head::Head;
 use crate::sheets::Sent;
 
@@ -70,6 +71,14 @@ pub fn damaged_template(dice: &mut Dice) -> Order {
         let some = dice.size(0, order.cells.len());
         order.cells.truncate(*dice.pick(&[0, some]));
     }
+    order
+}
+
+/// One number of the template, at any of its bytes.
+pub fn mistyped_template(dice: &mut Dice) -> Order {
+    let head = templates::small_head(dice);
+    let mut order = sound_order(dice, &head);
+    mistype_a_spot(dice, USGS, Record::Header, &mut order.template);
     order
 }
 

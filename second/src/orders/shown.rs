@@ -7,6 +7,7 @@ use crate::meaning::VOID_CELL;
 use crate::pointless;
 use crate::record_a::{self, Header};
 use crate::sender::{parts_of, Outcome};
+use crate::spots;
 use crate::write::fits;
 use crate::written;
 
@@ -112,14 +113,17 @@ const REFUSED: &[OfRefusals] = &[
 ];
 
 /// The names of all that orders show.
-pub fn names() -> Vec<&'static str> {
+pub fn names() -> Vec<String> {
     let sent = SENT.iter().map(|&(name, _)| name);
     let refused = REFUSED.iter().map(|&(name, _)| name);
-    sent.chain(refused).collect()
+    let mut names: Vec<String> = sent.chain(refused).map(String::from).collect();
+    // The template is a record A.
+    names.extend(spots::wanted(USGS, &[Record::Header]));
+    names
 }
 
 /// The names of all that this order shows.
-pub fn shown(input: &[u8], outcome: &Outcome) -> Vec<&'static str> {
+pub fn shown(input: &[u8], outcome: &Outcome) -> Vec<String> {
     let view = View {
         input,
         outcome,
@@ -132,7 +136,8 @@ pub fn shown(input: &[u8], outcome: &Outcome) -> Vec<&'static str> {
     let of_sheets = SENT.iter().filter(|(_, holds)| by_sheet(*holds));
     let of_refusals = REFUSED.iter().filter(|(_, holds)| by_refusal(*holds));
     let names = of_sheets.map(|&(name, _)| name);
-    names.chain(of_refusals.map(|&(name, _)| name)).collect()
+    let names = names.chain(of_refusals.map(|&(name, _)| name));
+    names.map(String::from).chain(view.spot()).collect()
 }
 
 /// An order and what came of it.
@@ -268,6 +273,14 @@ impl View<'_> {
                 !names.is_empty()
             }
             _ => false,
+        }
+    }
+
+    /// Where in its field the template's form is wrong.
+    fn spot(&self) -> Option<String> {
+        match *self.outcome {
+            Outcome::Refused { kind, number } => spots::shown(USGS, Record::Header, (kind, number)),
+            _ => None,
         }
     }
 

@@ -1,7 +1,7 @@
 //! Damage aimed at one rule: a profile's fields, posts and place, and the stated extremes.
 
 use super::canadian::damaged_header;
-use super::damage::{damaged, fields_of, nudge, post_field, Field};
+use super::damage::{damaged, fields_of, mistype_a_spot, nudge, post_field, Field};
 use super::{put, Sent};
 use crate::block::{Record, BLOCK_LENGTH, HUNDREDTH, INTEGER_WIDTH, REAL_WIDTH, UNIT};
 use crate::dice::Dice;
@@ -12,6 +12,10 @@ use crate::record_a::Header;
 /// A block, most often of a profile, with some of its fields or posts replaced, moved or shifted.
 pub fn damaged_profile_block(dice: &mut Dice, header: &Header, sent: &Sent) -> Vec<u8> {
     let mut block = sent.bytes.clone();
+    if dice.one_in(6) {
+        mistype_a_spot(dice, header.family, sent.record, &mut block);
+        return block;
+    }
     match sent.record {
         Record::Header if header.family == CANADIAN => return damaged_header(dice, &block),
         Record::ProfileStart => damage_start(dice, header, &mut block),
@@ -74,10 +78,9 @@ fn move_along(dice: &mut Dice, (first, spacing, count): (usize, i64, i64), block
     nudge(dice, block, first, places * spacing + beside);
 }
 
-/// One of these fields with one of its telling texts.
+/// One of these fields with one of its telling texts, or mistyped.
 pub fn replace(dice: &mut Dice, fields: &[Field], block: &mut [u8]) {
-    let field = dice.pick(fields);
-    put(block, field.first, &field.telling_text(dice));
+    dice.pick(fields).spoil(dice, block);
 }
 
 /// Makes one or more of the stated extremes wrong; answers the first block touched.

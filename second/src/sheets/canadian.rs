@@ -1,7 +1,8 @@
 //! Canadian sheets (02, request 2): headers that obey the family's record A, in many hands and
 //! from every part of the world, the blocks of their first profiles, and damage to block 0.
 
-use super::damage::{damaged, Field, CORNER_FIELDS, HEADER_FIELDS};
+use super::aimed::spoil_a_real;
+use super::damage::{damaged, mistype_a_spot, nudge, Field, CORNER_FIELDS, HEADER_FIELDS};
 use super::head::{
     at_or_above, at_or_below, corners, height_spacing, inside, later, Head, Sides, LETTERS,
 };
@@ -47,7 +48,7 @@ pub fn angle(dice: &mut Dice, reach: i64) -> Angle {
     let minutes = *dice.pick(&[0, 0, 15, 30, 45, any, 59]);
     let negative = dice.one_in(2);
     let seconds = seconds_text(dice);
-    let size = (degrees * 3600 + minutes * 60) * UNIT + number::real(&seconds).1;
+    let size = (degrees * 3600 + minutes * 60) * UNIT + number::real(&seconds).value;
     let text = [
         degrees_text(dice, negative, degrees),
         minutes_text(dice, minutes),
@@ -235,14 +236,20 @@ pub fn spoil_a_stretch(dice: &mut Dice, block: &mut [u8]) {
 }
 
 pub fn replace_a_part_of_the_corner(dice: &mut Dice, block: &mut [u8]) {
-    let field = dice.pick(&CORNER_FIELDS);
-    put(block, field.first, &field.telling_text(dice));
+    dice.pick(&CORNER_FIELDS).spoil(dice, block);
 }
 
 /// Another angle, in longitude or latitude.
 pub fn write_another_angle(dice: &mut Dice, block: &mut [u8]) {
     let other = angle(dice, 180);
     put(block, *dice.pick(&[LONGITUDE, LATITUDE]), &other.text);
+}
+
+/// One that the text says nothing of, by a spacing or by more than the sheet is wide.
+fn move_a_corner(dice: &mut Dice, block: &mut [u8]) {
+    let first = *dice.pick(&[595, 619, 643, 667, 691, 715]);
+    let by = *dice.pick(&[3, 12, 7200]) * UNIT;
+    nudge(dice, block, first, by);
 }
 
 /// All fields of the family's record A.
@@ -254,10 +261,13 @@ pub fn fields() -> Vec<Field> {
 pub fn damaged_header(dice: &mut Dice, block: &[u8]) -> Vec<u8> {
     let mut bytes = block.to_vec();
     for _ in 0..*dice.pick(&[1, 1, 1, 2, 3]) {
-        match dice.size(0, 7) {
+        match dice.size(0, 10) {
             0 | 1 => replace_a_part_of_the_corner(dice, &mut bytes),
             2 => spoil_a_stretch(dice, &mut bytes),
             3 => write_another_angle(dice, &mut bytes),
+            4 => mistype_a_spot(dice, CANADIAN, Record::Header, &mut bytes),
+            5 => move_a_corner(dice, &mut bytes),
+            6 => spoil_a_real(dice, Record::Header, &mut bytes),
             _ => {
                 let record = Record::Header;
                 bytes = damaged(dice, &Sent { record, bytes });

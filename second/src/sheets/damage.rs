@@ -1,12 +1,14 @@
-//! Damage to a block: a field replaced by a text that its rule, or a reading, is about,
-//! a byte changed, bytes shifted, a number moved a little. What comes out may still obey
-//! every rule; that is for the two programs to agree on.
+//! Damage to a block: a field replaced by a text that its rule, or a reading, is about, or
+//! mistyped at any of its bytes, a byte changed, bytes shifted, a number moved a little. What comes
+//! out may still obey every rule; that is for the two programs to agree on.
 
 use super::{hand, put, Sent};
 use crate::block::{Record, BLOCK_LENGTH, INTEGER_WIDTH, REAL_WIDTH, SPACING_WIDTH, UNIT};
 use crate::dice::Dice;
+use crate::family::USGS;
 use crate::number;
 use crate::profile::{FIRST_POST, POSTS_OF_FIRST_BLOCK, POSTS_OF_FURTHER_BLOCK};
+use crate::spots::{fields_by_sort, Span};
 
 /// A field and the texts on both sides of its own rule, to stand at its right end.
 #[derive(Clone, Copy)]
@@ -401,7 +403,55 @@ const REALS_AT_THE_LIMITS: [&[u8]; 43] = [
     b"1234567890123456789012D3",
 ];
 
+/// What is struck by mistake: keys that numbers have, in the wrong place, and others.
+const KEYS: &[u8] = b" 0+-.DEdO,l/:x\t\0\x7F\xA0";
+
+/// This text with each of its bytes in turn another key, and blank from there on.
+pub fn mistypings(text: &[u8]) -> Vec<Vec<u8>> {
+    let mut texts = Vec::new();
+    for place in 0..text.len() {
+        for &key in KEYS {
+            let mut other = text.to_vec();
+            other[place] = key;
+            texts.push(other);
+        }
+        let mut ended = text.to_vec();
+        ended[place..].fill(b' ');
+        texts.push(ended);
+    }
+    texts
+}
+
 impl Field {
+    /// Makes the field of this block wrong, or at least another.
+    pub fn spoil(&self, dice: &mut Dice, block: &mut [u8]) {
+        match dice.one_in(5) {
+            true => self.mistype(dice, block),
+            false => put(block, self.first, &self.telling_text(dice)),
+        }
+    }
+
+    /// What stands there is typed once more, up to any byte rightly: then comes another key, one too
+    /// many, one too few, or nothing more.
+    fn mistype(&self, dice: &mut Dice, block: &mut [u8]) {
+        let any = dice.size(0, self.width - 1);
+        let place = *dice.pick(&[any, any, 0, self.width - 1]);
+        let rest = &mut block[self.first - 1 + place..self.first - 1 + self.width];
+        let key = *dice.pick(KEYS);
+        match dice.size(0, 7) {
+            0 => rest.fill(b' '),
+            1 => {
+                rest.rotate_left(1);
+                rest[self.width - 1 - place] = b' ';
+            }
+            2 => {
+                rest.rotate_right(1);
+                rest[0] = key;
+            }
+            _ => rest[0] = key,
+        }
+    }
+
     /// Every text to try in this field, each as wide as the field.
     pub fn telling_texts(&self) -> Vec<Vec<u8>> {
         let mut texts: Vec<Vec<u8>> = self.texts.iter().map(|text| self.right(text)).collect();
@@ -463,15 +513,38 @@ pub fn damaged(dice: &mut Dice, sent: &Sent) -> Vec<u8> {
     let mut block = sent.bytes.clone();
     let times = *dice.pick(&[1, 1, 1, 2, 3]);
     for _ in 0..times {
-        match dice.size(0, 9) {
+        match dice.size(0, 10) {
             0..=3 => replace_a_field(dice, sent.record, &mut block),
             4 | 5 => change_a_byte(dice, &mut block),
             6 | 7 => nudge_a_real(dice, sent.record, &mut block),
             8 => mark_the_rest(dice, &mut block),
+            9 => mistype_a_spot(dice, USGS, sent.record, &mut block),
             _ => shift_bytes(dice, &mut block),
         }
     }
     block
+}
+
+/// What no number has, wherever it stands.
+pub const STRANGERS: &[u8] = b"O,lx/:\t\0\x7F\xA0\xFF";
+
+/// A stranger in one of the block's numbers: each sort of field is as likely as the others, and so
+/// are first byte, last byte, and any between.
+pub fn mistype_a_spot(dice: &mut Dice, family: i64, record: Record, block: &mut [u8]) {
+    let end = last_mark(block) + 1;
+    let mut sorts = fields_by_sort(family, record);
+    for fields in &mut sorts {
+        fields.retain(|field| field.first - 1 + field.width <= end);
+    }
+    sorts.retain(|fields| !fields.is_empty());
+    if sorts.is_empty() {
+        return change_a_byte(dice, block);
+    }
+    let fields = dice.pick(&sorts);
+    let &Span { first, width } = dice.pick(fields);
+    let between = dice.size(1, (width - 2).max(1));
+    let place = *dice.pick(&[0, between, width - 1]);
+    put(block, first + place, &[*dice.pick(STRANGERS)]);
 }
 
 fn replace_a_field(dice: &mut Dice, record: Record, block: &mut [u8]) {
@@ -482,7 +555,7 @@ fn replace_a_field(dice: &mut Dice, record: Record, block: &mut [u8]) {
     } else {
         *dice.pick(fields)
     };
-    put(block, field.first, &field.telling_text(dice));
+    field.spoil(dice, block);
 }
 
 /// Any post, or one of those around the last.
@@ -529,7 +602,7 @@ fn nudge_a_real(dice: &mut Dice, record: Record, block: &mut [u8]) {
 
 /// Adds `by` to a real, or takes it away; one that does not read counts as zero.
 pub fn nudge(dice: &mut Dice, block: &mut [u8], first: usize, by: i64) {
-    let (_, value) = number::real(&block[first - 1..first - 1 + REAL_WIDTH]);
+    let value = number::real(&block[first - 1..first - 1 + REAL_WIDTH]).value;
     let moved = if dice.one_in(2) {
         value + by
     } else {

@@ -4,9 +4,10 @@
 use super::{joined, sent_on, some_plan};
 use crate::block::{put, Record, BLOCK_LENGTH};
 use crate::dice::Dice;
+use crate::family::USGS;
 use crate::scripts::accident;
 use crate::sheets::aimed::{damaged_profile_block, misstate, replace, spoil_a_real, spoil_a_text};
-use crate::sheets::damage::{damaged, fields_of, post_field};
+use crate::sheets::damage::{damaged, fields_of, mistype_a_spot, post_field};
 use crate::sheets::shapes::small_plan;
 use crate::sheets::Sent;
 
@@ -37,6 +38,10 @@ pub fn profiles(dice: &mut Dice, _cells: usize) -> Vec<u8> {
             0 | 1 => sent.bytes = damaged(dice, sent),
             2 if sent.record == Record::ProfileStart => {
                 spoil_a_real(dice, sent.record, &mut sent.bytes)
+            }
+            2 if dice.one_in(2) => {
+                let post = *dice.pick(&[b" 32768", b"-32768", b"999999"]);
+                put(&mut sent.bytes, 1, post);
             }
             2 => replace(dice, &[post_field(sent.record, 0)], &mut sent.bytes),
             _ => sent.bytes = damaged_profile_block(dice, &plan.head.numbers, sent),
@@ -78,6 +83,33 @@ pub fn statistics(dice: &mut Dice, _cells: usize) -> Vec<u8> {
         }
         _ => replace(dice, fields_of(Record::Statistics), &mut blocks[last].bytes),
     }
+    sent_on(dice, &blocks)
+}
+
+/// A stranger in one number of a sheet, of any record that there is, at any of its bytes.
+pub fn mistyped(dice: &mut Dice, _cells: usize) -> Vec<u8> {
+    let mut plan = some_plan(dice);
+    plan.head.numbers.accuracy = 1;
+    let mut blocks = plan.blocks(dice);
+    // About as often as a record has sorts of numbers.
+    let record = *dice.pick(&[
+        Record::Header,
+        Record::Header,
+        Record::Header,
+        Record::ProfileStart,
+        Record::ProfileStart,
+        Record::ProfileRest,
+        Record::Statistics,
+    ]);
+    let of_record = |&number: &usize| blocks[number].record == record;
+    let numbers: Vec<usize> = (0..blocks.len()).filter(of_record).collect();
+    // Short profiles have no further block.
+    let number = match numbers.is_empty() {
+        true => 1,
+        false => *dice.pick(&numbers),
+    };
+    let sent = &mut blocks[number];
+    mistype_a_spot(dice, USGS, sent.record, &mut sent.bytes);
     sent_on(dice, &blocks)
 }
 

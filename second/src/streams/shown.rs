@@ -8,6 +8,7 @@ use crate::lister::Outcome;
 use crate::meaning::{self, Block, Refusal, Sheet};
 use crate::pointless;
 use crate::record_a;
+use crate::spots;
 
 type OfSheets = (&'static str, fn(&Sheet) -> bool);
 
@@ -86,6 +87,7 @@ pub fn names() -> Vec<String> {
         names.extend(pointless::taken(USGS, record));
     }
     names.extend([7, 8, 10, 11].map(pointless_name));
+    names.extend(spots::wanted_past_the_first(USGS, &Record::ALL));
     names
 }
 
@@ -182,6 +184,8 @@ fn shown_by_refusal(blocks: &[Block], cells: usize, refusal: Refusal) -> Vec<Str
         12 => names.extend(too_large_names(blocks, cells)),
         kind => names.extend(record_name(awaited, kind)),
     }
+    let fault = (refusal.kind, refusal.byte);
+    names.extend(awaited.and_then(|record| spots::shown(USGS, record, fault)));
     if let (Some(record), Some(block)) = (awaited, blocks.get(number)) {
         if refused_without_point(record, block, refusal) {
             names.push(pointless_name(refusal.kind));

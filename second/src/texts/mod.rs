@@ -4,7 +4,9 @@
 mod damage;
 mod limits;
 mod pointless;
+pub mod shown;
 pub mod spelling;
+mod spoilt;
 mod sweep;
 
 use crate::dice::Dice;
@@ -76,6 +78,14 @@ pub const FAMILIES: &[Family] = &[
     Family {
         name: "damaged reals",
         make: damage::damaged_reals,
+    },
+    Family {
+        name: "starts in every place",
+        make: spoilt::starts_in_every_place,
+    },
+    Family {
+        name: "one byte spoilt",
+        make: spoilt::one_byte_spoilt,
     },
     Family {
         name: "longer or shorter",

@@ -2,15 +2,18 @@
 
 use super::{Visit, ALPHABET, LONGEST_TEXT};
 use crate::dice::Dice;
-use crate::examples::{INTEGERS, POINTLESS_REALS, REALS};
+use crate::examples::{INTEGERS, INTEGER_BYTES, POINTLESS_REALS, REALS, REAL_BYTES};
 
 /// Every example, alone and with every number of blanks on either side.
 pub fn padded_examples(_: &mut Dice, visit: &mut Visit) {
-    for (text, _, _) in INTEGERS.iter().chain(REALS).chain(POINTLESS_REALS) {
+    let read = INTEGERS.iter().chain(REALS).chain(POINTLESS_REALS);
+    let spoilt = INTEGER_BYTES.iter().chain(REAL_BYTES);
+    let texts = read.map(|row| row.0).chain(spoilt.map(|row| row.0));
+    for text in texts {
         let room = LONGEST_TEXT.saturating_sub(text.len());
         for left in 0..=room {
             for right in 0..=room - left {
-                visit(&[&vec![b' '; left], *text, &vec![b' '; right]].concat());
+                visit(&[&vec![b' '; left], text, &vec![b' '; right]].concat());
             }
         }
     }
@@ -44,7 +47,8 @@ fn mark_one_place(length: usize, place: usize, visit: &mut Visit) {
 }
 
 /// All texts of up to two bytes, all of three and four bytes of the alphabet, and all
-/// of five and six of its most telling bytes.
+/// of five and six of its most telling bytes; and, for the very byte, all of up to six with one
+/// byte of every sort that a form knows.
 pub fn all_short_texts(_: &mut Dice, visit: &mut Visit) {
     let bytes: Vec<u8> = (0..=255).collect();
     for length in 0..=2 {
@@ -55,6 +59,9 @@ pub fn all_short_texts(_: &mut Dice, visit: &mut Visit) {
     }
     for length in 5..=6 {
         all_of(b"09-.D ", length, visit);
+    }
+    for length in 1..=6 {
+        all_of(b" +.7Dx", length, visit);
     }
 }
 

@@ -4,9 +4,9 @@ use mathlib.Core.Path.{sym, _∙_, _≡_, ap, ap₂}
 use mathlib.Core.Bool.{true}
 use mir.Facts.{toZ-ofZ}
 use Rattle.laws.specs.Sign.{signed}
-use Rattle.number.specs.Integer.{integer, read, integerForm}
+use Rattle.number.specs.Integer.{integer, read, wrongForm, integerForm}
 use Rattle.number.specs.Bytes.{isMinus, starts, digits, number}
-use Rattle.number.proofs.Fields.{within-none, within-long, integer-wrong, form-none, form-short, integer-good, unsigned-is, form-good}
+use Rattle.number.proofs.Fields.{within-none, within-long, integer-wrong, form-none, form-short, integer-good, unsigned-is, form-good, byte-at}
 use Rattle.number.proofs.read_integer.Statement.{statement}
 use Rattle.number.proofs.read_integer.Tie as tie
 
@@ -33,8 +33,8 @@ past-sign-requires c κs = search needs
 read-whole-requires : tie.Need-read-whole-requires
 read-whole-requires c κs = search needs
 
-refuse-requires-3 : tie.Need-refuse-requires-3
-refuse-requires-3 c κs = search needs
+wrong-form-requires : tie.Need-wrong-form-requires
+wrong-form-requires c κs = search needs
 
 returns-3 : tie.Need-returns-3
 returns-3 c =
@@ -42,13 +42,14 @@ returns-3 c =
     let g = w .before in
     let b = g .before in
     let s = b .before .before .before .before .args .field .now in
-    c .refuse3 .ensures
+    c .wrong-form .ensures
+    ∙ ap wrongForm (sym (byte-at s _ _ (b .past-blanks .ensures) (g .past-sign .ensures) _ (w .read-whole .ensures .past)))
     ∙ sym
     (integer-wrong s (b .before .before .if1 .left) (b .before .if2 .left)
     (form-none s _ _ (b .past-blanks .ensures) (g .past-sign .ensures) _ (w .read-whole .ensures .past) (c .before .if3 .taken)))
 
-refuse-requires-4 : tie.Need-refuse-requires-4
-refuse-requires-4 c κs = search needs
+wrong-form-requires-2 : tie.Need-wrong-form-requires-2
+wrong-form-requires-2 c κs = search needs
 
 returns-4 : tie.Need-returns-4
 returns-4 c =
@@ -56,7 +57,8 @@ returns-4 c =
     let g = w .before in
     let b = g .before in
     let s = b .before .before .before .before .args .field .now in
-    c .refuse4 .ensures
+    c .wrong-form2 .ensures
+    ∙ ap wrongForm (sym (byte-at s _ _ (b .past-blanks .ensures) (g .past-sign .ensures) _ (w .read-whole .ensures .past)))
     ∙ sym
     (integer-wrong s (b .before .before .if1 .left) (b .before .if2 .left)
     (form-short s _ _ (b .past-blanks .ensures) (g .past-sign .ensures) _ (w .read-whole .ensures .past) (c .before .if4 .taken)))
@@ -94,9 +96,9 @@ read-integer-spec =
     past-blanks-requires
     past-sign-requires
     read-whole-requires
-    refuse-requires-3
+    wrong-form-requires
     returns-3
-    refuse-requires-4
+    wrong-form-requires-2
     returns-4
     minus-at-requires
     join-requires

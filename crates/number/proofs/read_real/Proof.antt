@@ -7,6 +7,7 @@ use Prim.Native.Nat.{ℕ, _+_, _-_, _^_, _≤_, _<_}
 use native.Mathlib.Omega.{arith}
 use lib.Dec.{lit≤, ltb}
 use lib.ListN.{length}
+use Rattle.number.specs.Integer.{wrongForm}
 use Rattle.number.specs.Real.{real}
 use Rattle.number.specs.Grammar.{raised, sunk}
 use Rattle.number.specs.declared.decimal.Mantissa.{Mantissa}
@@ -15,7 +16,7 @@ use Rattle.number.specs.Bytes.{isMinus, starts}
 use Rattle.number.specs.Steps.{readingOf, ScaledAt}
 use Rattle.number.specs.declared.decimal.Scaled.{Scaled}
 use Rattle.number.proofs.Fields.{within-none, within-long, unsigned-is}
-use Rattle.number.proofs.Reals.{real-wrong, form-no-digit, form-no-power, form-no-end, real-good, form-real, decimals-few, value-is, scaled-lowered, scaled-raised}
+use Rattle.number.proofs.Reals.{real-wrong, byte-at-digit, byte-at-power, byte-at-end, form-no-digit, form-no-power, form-no-end, real-good, form-real, decimals-few, value-is, scaled-lowered, scaled-raised}
 use Rattle.number.proofs.read_real.Statement.{statement}
 use Rattle.number.proofs.read_real.Tie as tie
 
@@ -42,8 +43,8 @@ past-sign-requires c κs = search needs
 read-mantissa-requires : tie.Need-read-mantissa-requires
 read-mantissa-requires c κs = search needs
 
-refuse-requires-3 : tie.Need-refuse-requires-3
-refuse-requires-3 c κs = search needs
+wrong-form-requires : tie.Need-wrong-form-requires
+wrong-form-requires c κs = search needs
 
 returns-3 : tie.Need-returns-3
 returns-3 c =
@@ -52,7 +53,8 @@ returns-3 c =
     let b = g .before in
     let s = b .before .before .before .before .args .field .now in
     let u = unsigned-is s (b .past-blanks .result) (g .past-sign .result) (b .past-blanks .ensures) (g .past-sign .ensures) in
-    c .refuse3 .ensures
+    c .wrong-form .ensures
+    ∙ ap wrongForm (sym (byte-at-digit s (g .past-sign .result) u (m .read-mantissa .result) (m .read-mantissa .ensures) (c .before .if3 .taken)))
     ∙ sym
     (real-wrong s (b .before .before .if1 .left) (b .before .if2 .left)
     (form-no-digit s (g .past-sign .result) u (m .read-mantissa .result) (m .read-mantissa .ensures) (c .before .if3 .taken)))
@@ -60,8 +62,10 @@ returns-3 c =
 read-power-requires : tie.Need-read-power-requires
 read-power-requires c κs = search needs
 
-refuse-requires-4 : tie.Need-refuse-requires-4
-refuse-requires-4 c κs = search needs
+wrong-form-requires-2 : tie.Need-wrong-form-requires-2
+wrong-form-requires-2 c κs =
+    let p = c .before .before in
+    (p .read-power .ensures .stops (not-true _ (c .if4 .taken)) .inside, p .before .before .before .before .before .before .if2 .left)
 
 returns-4 : tie.Need-returns-4
 returns-4 c =
@@ -71,11 +75,17 @@ returns-4 c =
     let b = g .before in
     let s = b .before .before .before .before .args .field .now in
     let u = unsigned-is s (b .past-blanks .result) (g .past-sign .result) (b .past-blanks .ensures) (g .past-sign .ensures) in
-    c .refuse4 .ensures
+    let bad = not-true _ (c .before .if4 .taken) in
+    c .wrong-form2 .ensures
+    ∙ ap wrongForm
+    (sym
+    (byte-at-power s (g .past-sign .result) u (m .read-mantissa .result) (m .read-mantissa .ensures) (p .read-power .result) (p .read-power .ensures)
+    (p .before .if3 .left)
+    bad))
     ∙ sym
     (real-wrong s (b .before .before .if1 .left) (b .before .if2 .left)
     (form-no-power s (g .past-sign .result) u (m .read-mantissa .result) (m .read-mantissa .ensures) (p .read-power .result) (p .read-power .ensures)
-    (not-true _ (c .before .if4 .taken))))
+    bad))
 
 -- past the fourth test the power of ten has its form
 good : (c : tie.Else4) → c .before .before .read-power .result .good ≡ true
@@ -84,8 +94,8 @@ good c = not-false _ (c .if4 .left)
 past-blanks-requires-2 : tie.Need-past-blanks-requires-2
 past-blanks-requires-2 c κs = c .before .before .read-power .ensures .is (good c) .past .inside
 
-refuse-requires-5 : tie.Need-refuse-requires-5
-refuse-requires-5 c κs = search needs
+wrong-form-requires-3 : tie.Need-wrong-form-requires-3
+wrong-form-requires-3 c κs = search needs
 
 returns-5 : tie.Need-returns-5
 returns-5 c =
@@ -95,13 +105,21 @@ returns-5 c =
     let b = g .before in
     let s = b .before .before .before .before .args .field .now in
     let u = unsigned-is s (b .past-blanks .result) (g .past-sign .result) (b .past-blanks .ensures) (g .past-sign .ensures) in
-    c .refuse5 .ensures
+    let e = c .before .before in
+    c .wrong-form3 .ensures
+    ∙ ap wrongForm
+    (sym
+    (byte-at-end s (g .past-sign .result) u (m .read-mantissa .result) (m .read-mantissa .ensures) (p .read-power .result) (p .read-power .ensures)
+    (good (e .before))
+    (e .past-blanks2 .result)
+    (e .past-blanks2 .ensures)
+    (p .before .if3 .left)))
     ∙ sym
     (real-wrong s (b .before .before .if1 .left) (b .before .if2 .left)
     (form-no-end s (g .past-sign .result) u (m .read-mantissa .result) (m .read-mantissa .ensures) (p .read-power .result) (p .read-power .ensures)
-    (good (c .before .before .before))
-    (c .before .before .past-blanks2 .result)
-    (c .before .before .past-blanks2 .ensures)
+    (good (e .before))
+    (e .past-blanks2 .result)
+    (e .past-blanks2 .ensures)
     (c .before .if5 .taken)))
 
 sub-standing : tie.Need-sub-standing
@@ -236,13 +254,13 @@ read-real-spec =
     past-blanks-requires
     past-sign-requires
     read-mantissa-requires
-    refuse-requires-3
+    wrong-form-requires
     returns-3
     read-power-requires
-    refuse-requires-4
+    wrong-form-requires-2
     returns-4
     past-blanks-requires-2
-    refuse-requires-5
+    wrong-form-requires-3
     returns-5
     sub-standing
     decimals-requires

@@ -1,6 +1,6 @@
 -- Only the form of the real counts.
 use borrow.Author.Needs.{needs}
-use mathlib.Core.Path.{ap}
+use mathlib.Core.Path.{_∙_, ap}
 use borrow.Author.Tests.{eq-eqb, ne-eqb}
 use Rattle.number.specs.declared.Reading.{Reading}
 use Rattle.sheet.proofs.judge_form.Statement.{statement}
@@ -10,7 +10,9 @@ read-real-requires : tie.Need-read-real-requires
 read-real-requires c κs = search needs
 
 returns : tie.Need-returns
-returns c = rw (← (ap (λ (r : Reading). r .kind) (c .before .before .read-real .ensures))) (simp (eq-eqb _ _ (c .if1 .taken)))
+returns c =
+    let e = c .before .before .read-real .ensures in
+    e ∙ rw (← (ap (λ (r : Reading). r .kind) e)) (simp (eq-eqb _ _ (c .if1 .taken)))
 
 returns-2 : tie.Need-returns-2
 returns-2 c = rw (← (ap (λ (r : Reading). r .kind) (c .before .before .read-real .ensures))) (simp (ne-eqb _ _ (c .if1 .left)))

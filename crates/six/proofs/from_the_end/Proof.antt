@@ -2,13 +2,13 @@
 use mathlib.Core.Bool.{true}
 use mathlib.Core.Path.{_≡_, sym, _∙_, ap}
 use native.Mathlib.Omega.{arith}
-use borrow.Author.Tests.{not-false, not-true}
+use borrow.Author.Tests.{not-false}
 use lib.ListN.{getD}
 use mir.Facts.{toZ-ofZ}
 use mir.Syntax.{w64}
 use Rattle.number.specs.Bytes.{isDigit}
 use Rattle.number.specs.Integer.{read}
-use Rattle.six.proofs.Fronts.{end-wrong, low, top, asked4, asked3, asked2, asked1, asked0, all-six, six-small}
+use Rattle.six.proofs.Fronts.{low, top, asked4, asked3, asked2, asked1, asked0, all-six, six-small}
 use borrow.Author.Needs.{needs}
 use Rattle.six.proofs.from_the_end.Statement.{statement}
 use Rattle.six.proofs.from_the_end.Tie as tie
@@ -38,14 +38,11 @@ shared-slice-read-f c = search needs
 is-digit-requires : tie.Need-is-digit-requires
 is-digit-requires c κs = search needs
 
-wrong-form-requires : tie.Need-wrong-form-requires
-wrong-form-requires c κs = search needs
+read-integer-requires : tie.Need-read-integer-requires
+read-integer-requires c κs = search needs
 
 returns : tie.Need-returns
-returns c =
-    let d = c .before .before in
-    let s = d .before .before .before in
-    c .wrong-form .ensures ∙ sym (end-wrong (s .args .field .now) (s .pre) (sym (d .is-digit .ensures) ∙ not-true _ (c .before .if1 .taken)))
+returns c = c .read-integer .ensures
 
 sub-ones : tie.Need-sub-ones
 sub-ones c = low (c .before .before .before .before .args .field .now) (c .before .before .before .before .pre) 5 (t5 c)
@@ -61,7 +58,7 @@ is-digit-requires-2 c κs = search needs
 
 front-requires : tie.Need-front-requires
 front-requires c κs =
-    asked4 (c .before .before .before .before .before .before .before .args .field .now) (c .before .before .before .before .before .before .before .pre) (t5 (c .before .before .before)) (sym (c .before .is-digit2 .ensures) ∙ not-true _ (c .if2 .taken))
+    asked4 (c .before .before .before .before .before .before .before .args .field .now) (c .before .before .before .before .before .before .before .pre) (t5 (c .before .before .before))
 
 returns-2 : tie.Need-returns-2
 returns-2 c = search needs
@@ -86,7 +83,7 @@ is-digit-requires-3 c κs = search needs
 
 front-requires-2 : tie.Need-front-requires-2
 front-requires-2 c κs =
-    asked3 (c .before .before .before .before .before .before .before .before .before .before .args .field .now) (c .before .before .before .before .before .before .before .before .before .before .pre) (t5 (c .before .before .before .before .before .before)) (t4 (c .before .before .before)) (sym (c .before .is-digit3 .ensures) ∙ not-true _ (c .if3 .taken))
+    asked3 (c .before .before .before .before .before .before .before .before .before .before .args .field .now) (c .before .before .before .before .before .before .before .before .before .before .pre) (t5 (c .before .before .before .before .before .before)) (t4 (c .before .before .before))
 
 returns-3 : tie.Need-returns-3
 returns-3 c = search needs
@@ -111,7 +108,7 @@ is-digit-requires-4 c κs = search needs
 
 front-requires-3 : tie.Need-front-requires-3
 front-requires-3 c κs =
-    asked2 (c .before .before .before .before .before .before .before .before .before .before .before .before .before .args .field .now) (c .before .before .before .before .before .before .before .before .before .before .before .before .before .pre) (t5 (c .before .before .before .before .before .before .before .before .before)) (t4 (c .before .before .before .before .before .before)) (t3 (c .before .before .before)) (sym (c .before .is-digit4 .ensures) ∙ not-true _ (c .if4 .taken))
+    asked2 (c .before .before .before .before .before .before .before .before .before .before .before .before .before .args .field .now) (c .before .before .before .before .before .before .before .before .before .before .before .before .before .pre) (t5 (c .before .before .before .before .before .before .before .before .before)) (t4 (c .before .before .before .before .before .before)) (t3 (c .before .before .before))
 
 returns-4 : tie.Need-returns-4
 returns-4 c = search needs
@@ -136,7 +133,7 @@ is-digit-requires-5 c κs = search needs
 
 front-requires-4 : tie.Need-front-requires-4
 front-requires-4 c κs =
-    asked1 (c .before .before .before .before .before .before .before .before .before .before .before .before .before .before .before .before .args .field .now) (c .before .before .before .before .before .before .before .before .before .before .before .before .before .before .before .before .pre) (t5 (c .before .before .before .before .before .before .before .before .before .before .before .before)) (t4 (c .before .before .before .before .before .before .before .before .before)) (t3 (c .before .before .before .before .before .before)) (t2 (c .before .before .before)) (sym (c .before .is-digit5 .ensures) ∙ not-true _ (c .if5 .taken))
+    asked1 (c .before .before .before .before .before .before .before .before .before .before .before .before .before .before .before .before .args .field .now) (c .before .before .before .before .before .before .before .before .before .before .before .before .before .before .before .before .pre) (t5 (c .before .before .before .before .before .before .before .before .before .before .before .before)) (t4 (c .before .before .before .before .before .before .before .before .before)) (t3 (c .before .before .before .before .before .before)) (t2 (c .before .before .before))
 
 returns-5 : tie.Need-returns-5
 returns-5 c = search needs
@@ -161,7 +158,7 @@ is-digit-requires-6 c κs = search needs
 
 front-requires-5 : tie.Need-front-requires-5
 front-requires-5 c κs =
-    asked0 (c .before .before .before .before .before .before .before .before .before .before .before .before .before .before .before .before .before .before .before .args .field .now) (c .before .before .before .before .before .before .before .before .before .before .before .before .before .before .before .before .before .before .before .pre) (t5 (c .before .before .before .before .before .before .before .before .before .before .before .before .before .before .before)) (t4 (c .before .before .before .before .before .before .before .before .before .before .before .before)) (t3 (c .before .before .before .before .before .before .before .before .before)) (t2 (c .before .before .before .before .before .before)) (t1 (c .before .before .before)) (sym (c .before .is-digit6 .ensures) ∙ not-true _ (c .if6 .taken))
+    asked0 (c .before .before .before .before .before .before .before .before .before .before .before .before .before .before .before .before .before .before .before .args .field .now) (c .before .before .before .before .before .before .before .before .before .before .before .before .before .before .before .before .before .before .before .pre) (t5 (c .before .before .before .before .before .before .before .before .before .before .before .before .before .before .before)) (t4 (c .before .before .before .before .before .before .before .before .before .before .before .before)) (t3 (c .before .before .before .before .before .before .before .before .before)) (t2 (c .before .before .before .before .before .before)) (t1 (c .before .before .before))
 
 returns-6 : tie.Need-returns-6
 returns-6 c = search needs
@@ -194,7 +191,7 @@ from-the-end-spec =
     (tie.spec
     shared-slice-read-f
     is-digit-requires
-    wrong-form-requires
+    read-integer-requires
     returns
     sub-ones
     cast-ones

@@ -3,14 +3,14 @@ use mathlib.Core.Path.{_≡_, sym, _∙_, ap}
 use native.Mathlib.Omega.{arith}
 use lib.ListN.{getD}
 use lib.Seq.{length-take-le}
-use borrow.Author.Tests.{not-false, not-true}
+use borrow.Author.Tests.{not-false}
 use mir.Facts.{toZ-ofZ}
 use mir.Syntax.{w64}
 use mir.Val.{toZ, ofZ}
 use Rattle.laws.specs.Sign.{signed}
 use Rattle.number.specs.Bytes.{isMinus}
 use Rattle.number.specs.Integer.{read}
-use Rattle.six.proofs.Fronts.{front-wrong, front-blocked, front-read}
+use Rattle.six.proofs.Fronts.{front-read}
 use borrow.Author.Needs.{needs}
 use Rattle.six.proofs.front.Statement.{statement}
 use Rattle.six.proofs.front.Tie as tie
@@ -21,14 +21,11 @@ shared-slice-read-c c = search needs
 is-front-requires : tie.Need-is-front-requires
 is-front-requires c κs = search needs
 
-wrong-form-requires : tie.Need-wrong-form-requires
-wrong-form-requires c κs = search needs
+read-integer-requires : tie.Need-read-integer-requires
+read-integer-requires c κs = search needs
 
 returns : tie.Need-returns
-returns c =
-    let f = c .before .before in
-    let s = f .before .before .before in
-    c .wrong-form .ensures ∙ sym (front-wrong (s .args .field .now) (s .args .k) (s .args .size) (s .pre) (sym (f .is-front .ensures) ∙ not-true _ (c .before .if1 .taken)))
+returns c = c .read-integer .ensures
 
 slice-aggregate-all-blank : tie.Need-slice-aggregate-all-blank
 slice-aggregate-all-blank c =
@@ -38,15 +35,11 @@ slice-aggregate-all-blank c =
 all-blank-requires : tie.Need-all-blank-requires
 all-blank-requires c κs = search needs
 
-wrong-form-requires-2 : tie.Need-wrong-form-requires-2
-wrong-form-requires-2 c κs = search needs
+read-integer-requires-2 : tie.Need-read-integer-requires-2
+read-integer-requires-2 c κs = search needs
 
 returns-2 : tie.Need-returns-2
-returns-2 c =
-    let b = c .before .before in
-    let f = b .before .before .before in
-    let s = f .before .before .before in
-    c .wrong-form2 .ensures ∙ sym (front-blocked (s .args .field .now) (s .args .k) (s .args .size) (s .pre) (sym (b .all-blank .ensures) ∙ not-true _ (c .before .if2 .taken)))
+returns-2 c = c .read-integer2 .ensures
 
 join-requires : tie.Need-join-requires
 join-requires c κs = search needs
@@ -70,11 +63,11 @@ front-spec =
     (tie.spec
     shared-slice-read-c
     is-front-requires
-    wrong-form-requires
+    read-integer-requires
     returns
     slice-aggregate-all-blank
     all-blank-requires
-    wrong-form-requires-2
+    read-integer-requires-2
     returns-2
     join-requires
     returns-3)

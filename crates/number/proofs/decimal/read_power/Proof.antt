@@ -1,15 +1,12 @@
 -- A power of ten: none, one of wrong form, or a letter, a sign and one or two digits. Powers has what each test decides.
 use mathlib.Core.Path.{sym, _∙_, _≡_}
 use borrow.Author.Needs.{needs}
-use borrow.Author.Tests.{not-true, not-false, lt-leb}
-use Prim.Native.Nat.{_-_}
+use borrow.Author.Tests.{not-true, not-false}
 use mathlib.Core.Bool.{true}
-use mathlib.Core.Logic.{inl, inr}
-use native.Mathlib.Omega.{arith}
 use lib.ListN.{getD}
 use Rattle.number.specs.Bytes.{isLetter}
 use Rattle.number.proofs.Places.{starts-none, starts-here}
-use Rattle.number.proofs.Powers.{power-none, power-wrong, power-good}
+use Rattle.number.proofs.Powers.{power-none, power-no-digit, power-third-digit, power-good}
 use Rattle.number.proofs.decimal.read_power.Statement.{statement}
 use Rattle.number.proofs.decimal.read_power.Tie as tie
 
@@ -49,14 +46,16 @@ returns-3 c =
     let l = e .before .before .before in
     let a = l .before .before .before .before .args in
     let letter : isLetter (getD (a .s .now) (a .from) 0) ≡ true = sym (l .is-letter .ensures) ∙ not-false _ (e .before .before .if2 .left) in
-    power-wrong (a .s .now) (a .from) (e .before .past-sign .result) (e .keep-digits .result) (l .before .before .if1 .left) letter
+    power-no-digit (a .s .now) (a .from) (e .before .past-sign .result) (e .keep-digits .result) (l .before .before .if1 .left) letter
     (e .before .past-sign .ensures)
     (e .keep-digits .ensures)
-    (a .from)
-    (inl (lt-leb 1 (e .keep-digits .result .next - e .before .past-sign .result) (omega (arith, c .if3 .taken))))
+    (c .if3 .taken)
 
 add-if4 : tie.Need-add-if4
 add-if4 c = search needs
+
+add-t15 : tie.Need-add-t15
+add-t15 c = search needs
 
 returns-4 : tie.Need-returns-4
 returns-4 c =
@@ -64,11 +63,10 @@ returns-4 c =
     let l = e .before .before .before in
     let a = l .before .before .before .before .args in
     let letter : isLetter (getD (a .s .now) (a .from) 0) ≡ true = sym (l .is-letter .ensures) ∙ not-false _ (e .before .before .if2 .left) in
-    power-wrong (a .s .now) (a .from) (e .before .past-sign .result) (e .keep-digits .result) (l .before .before .if1 .left) letter
+    power-third-digit (a .s .now) (a .from) (e .before .past-sign .result) (e .keep-digits .result) (l .before .before .if1 .left) letter
     (e .before .past-sign .ensures)
     (e .keep-digits .ensures)
-    (a .from)
-    (inr (lt-leb (e .keep-digits .result .next - e .before .past-sign .result) 2 (omega (arith, c .if4 .taken))))
+    (c .if4 .taken)
 
 minus-at-requires : tie.Need-minus-at-requires
 minus-at-requires c κs = search needs
@@ -101,6 +99,7 @@ read-power-spec =
     add-if3
     returns-3
     add-if4
+    add-t15
     returns-4
     minus-at-requires
     returns-5)
