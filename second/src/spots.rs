@@ -31,13 +31,16 @@ const DEGREES: &str = "the corner's degrees";
 const MINUTES: &str = "the corner's minutes";
 const SECONDS: &str = "the corner's seconds";
 
+/// How far into an angle its seconds begin.
+const SECONDS_AT: usize = DEGREES_WIDTH + MINUTES_WIDTH;
+
 const OF_A_CORNER_TEXT: [Row; 6] = [
     row(LONGITUDE, DEGREES_WIDTH, 1, DEGREES),
-    row(LONGITUDE + 4, MINUTES_WIDTH, 1, MINUTES),
-    row(LONGITUDE + 6, SECONDS_WIDTH, 1, SECONDS),
+    row(LONGITUDE + DEGREES_WIDTH, MINUTES_WIDTH, 1, MINUTES),
+    row(LONGITUDE + SECONDS_AT, SECONDS_WIDTH, 1, SECONDS),
     row(LATITUDE, DEGREES_WIDTH, 1, DEGREES),
-    row(LATITUDE + 4, MINUTES_WIDTH, 1, MINUTES),
-    row(LATITUDE + 6, SECONDS_WIDTH, 1, SECONDS),
+    row(LATITUDE + DEGREES_WIDTH, MINUTES_WIDTH, 1, MINUTES),
+    row(LATITUDE + SECONDS_AT, SECONDS_WIDTH, 1, SECONDS),
 ];
 
 const OF_A_HEADER: [Row; 7] = [

@@ -4,8 +4,8 @@ use mathlib.Core.List.{List, [], _∷_, map, _++_}
 use Prim.Native.Nat.{ℕ}
 use Prim.Native.String.{String}
 use Rattle.laws.specs.Texts.{bytes}
-use Rattle.number.specs.Integer.{integerByte}
-use Rattle.number.specs.Real.{realByte}
+use Rattle.number.specs.IntegerStarts.{integerByte}
+use Rattle.number.specs.RealStarts.{realByte}
 
 abbrev pub integers : List String → List ℕ
 unfolding integerByte

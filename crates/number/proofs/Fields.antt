@@ -8,7 +8,8 @@ use lib.Dec.{leb}
 use mathlib.Core.Bool.{true, false, not}
 use native.Mathlib.Omega.{arith}
 use Rattle.laws.proofs.Tests.{and-fails-second}
-use Rattle.number.specs.Integer.{ofLength, refused, wrongForm, integer, integerByte, integerForm, integerValue, read, unsignedPart}
+use Rattle.number.specs.Integer.{ofLength, refused, wrongForm, integer, integerForm, integerValue, read, unsignedPart}
+use Rattle.number.specs.IntegerStarts.{integerByte}
 use Rattle.number.specs.declared.Reading.{Reading}
 use Rattle.number.specs.Bytes.{isEmpty, isBlank, isSign, isDigit, pastOne, pastAll, digits}
 use Rattle.number.specs.Steps.{Past, stoppedAt}

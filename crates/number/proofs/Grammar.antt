@@ -15,10 +15,12 @@ use Rattle.laws.specs.Starts.{VeryByte, Anyhow}
 use Rattle.laws.proofs.Answers.{one-answer}
 use Rattle.laws.proofs.Starts.{very-wrong, one-very-byte}
 use Rattle.number.specs.declared.Reading.{Reading}
-use Rattle.number.specs.Integer.{refused, wrongForm, ofLength, read, integer, integerByte, integerForm, integerValue, unsignedPart}
+use Rattle.number.specs.Integer.{refused, wrongForm, ofLength, read, integer, integerForm, integerValue, unsignedPart}
 use Rattle.number.specs.Grammar.{IntegerText, IntegerMeans, SomeInteger, RealText, RealMeans, SomeReal, Large, Billionths}
 use Rattle.number.specs.Bytes.{isBlank, isMinus, starts, pastAll}
-use Rattle.number.specs.Real.{realValue, real, realByte, realForm}
+use Rattle.number.specs.Real.{realValue, real, realForm}
+use Rattle.number.specs.IntegerStarts.{integerByte}
+use Rattle.number.specs.RealStarts.{realByte}
 use Rattle.number.proofs.IntegerBytes.{integer-byte-is, integer-byte-any}
 use Rattle.number.proofs.RealBytes.{real-byte-is, real-byte-any}
 use Rattle.number.proofs.GrammarParts.{between}

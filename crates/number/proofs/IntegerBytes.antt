@@ -10,8 +10,9 @@ use Rattle.laws.specs.Starts.{run, lostAt, VeryByte, Anyhow}
 use Rattle.laws.proofs.Tests.{clash, by-test}
 use Rattle.laws.proofs.Starts.{Knows, lost-is, lost-anyhow, walked, lost-at}
 use Rattle.number.specs.Bytes.{isBlank, isSign, isDigit, isEmpty, pastAll, digits}
-use Rattle.number.specs.Integer.{Place, step, isLost, integerByte, integerForm, unsignedPart}
-use Rattle.number.specs.Integer.Place.{inBlanks, pastSign, inDigits, lost}
+use Rattle.number.specs.Integer.{integerForm, unsignedPart}
+use Rattle.number.specs.IntegerStarts.{Place, step, isLost, integerByte}
+use Rattle.number.specs.IntegerStarts.Place.{inBlanks, pastSign, inDigits, lost}
 use Rattle.number.specs.Steps.{stoppedAt}
 
 -- ---- a walk goes past the blanks, the sign and the digits; it ends well where that is the whole field, with a digit

@@ -14,8 +14,9 @@ use Rattle.laws.proofs.Tests.{clash, by-test}
 use Rattle.laws.proofs.Starts.{Knows, lost-is, lost-anyhow, walked, lost-at}
 use Rattle.number.specs.Bytes.{isBlank, isSign, isDigit, isPoint, isLetter, isEmpty, starts, pastOne, pastAll, digits}
 use Rattle.number.specs.Integer.{unsignedPart}
-use Rattle.number.specs.Real.{Place, leaves, step, isLost, realByte, realForm, mantissaDigits, pastMantissa, powerForm, pastPower, power}
-use Rattle.number.specs.Real.Place.{inBlanks, pastSign, inWhole, barePoint, inFraction, pastLetter, pastPowerSign, oneDigit, twoDigits, inRest, lost}
+use Rattle.number.specs.RealStarts.{Place, leaves, step, isLost, realByte}
+use Rattle.number.specs.Real.{realForm, mantissaDigits, pastMantissa, powerForm, pastPower, power}
+use Rattle.number.specs.RealStarts.Place.{inBlanks, pastSign, inWhole, barePoint, inFraction, pastLetter, pastPowerSign, oneDigit, twoDigits, inRest, lost}
 use Rattle.number.specs.Steps.{stoppedAt, powerStop}
 use Rattle.number.proofs.Places.{digit-range}
 

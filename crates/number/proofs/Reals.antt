@@ -11,7 +11,8 @@ use Rattle.laws.proofs.Tests.{and-fails-first, and-fails-second, and-both, by-t
 use Rattle.number.specs.Bytes.{isBlank, isMinus, starts, pastAll, isEmpty, digits, isDigit, number}
 use Rattle.number.specs.Integer.{unsignedPart, wrongForm}
 use Rattle.number.specs.Grammar.{raised, sunk}
-use Rattle.number.specs.Real.{real, realByte, realForm, realValue, mantissaDigits, fractionPart, pastMantissa, powerForm, powerMinus, powerSize, pastPower, decimals, assumed}
+use Rattle.number.specs.Real.{real, realForm, realValue, mantissaDigits, fractionPart, pastMantissa, powerForm, powerMinus, powerSize, pastPower, decimals, assumed}
+use Rattle.number.specs.RealStarts.{realByte}
 use Rattle.number.specs.Steps.{Past, stoppedAt, powerStop, MantissaAt, PowerAt, ScaledAt, Leads, none, keptAll, readingOf}
 use Rattle.number.specs.declared.decimal.Kept.{Kept}
 use Rattle.number.specs.declared.decimal.Mantissa.{Mantissa}

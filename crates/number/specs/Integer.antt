@@ -1,14 +1,14 @@
 -- Document 01, "Number fields", and 02, request 6: an integer field, read alone.
 use Prim.Native.Nat.{ℕ}
 use lib.IntN.{pos, ℤ}
-use mathlib.Core.Bool.{cond, Bool, not, true, false}
+use mathlib.Core.Bool.{cond, Bool, not}
 use mathlib.Core.List.{List}
 use lib.Dec.{leb}
 use lib.ListN.{length}
 use Rattle.laws.specs.Sign.{_and_, signed}
-use Rattle.laws.specs.Starts.{lostAt}
 use Rattle.number.specs.declared.Reading.{Reading}
 use Rattle.number.specs.Bytes.{isBlank, isSign, pastOne, pastAll, isDigit, isEmpty, digits, isMinus, starts, number}
+use Rattle.number.specs.IntegerStarts.{integerByte}
 
 -- "A refused reading gives its kind .."
 abbrev pub refused : ℕ → Reading
@@ -39,29 +39,6 @@ saysMinus s = starts isMinus (pastAll isBlank s)
 
 abbrev pub integerValue : List ℕ → ℤ
 integerValue s = signed (saysMinus s) (number 0 (digits (unsignedPart s)))
-
--- 02, request 6: how far a start of an integer field has come, byte by byte. The byte is that at which there is no going on, or the last; that the
--- request means this one is `integer-wrong-form` (proofs, Grammar).
-pub data Place : Type 0 where
-  inBlanks : Place
-  pastSign : Place
-  inDigits : Place
-  lost : Place
-
-abbrev pub step : Place → ℕ → Place
-step inBlanks c = cond (isBlank c) inBlanks (cond (isSign c) pastSign (cond (isDigit c) inDigits lost))
-step pastSign c = cond (isDigit c) inDigits lost
-step inDigits c = cond (isDigit c) inDigits lost
-step lost c = lost
-
-abbrev pub isLost : Place → Bool
-isLost inBlanks = false
-isLost pastSign = false
-isLost inDigits = false
-isLost lost = true
-
-unfoldable pub integerByte : List ℕ → ℕ
-integerByte s = lostAt step isLost inBlanks s
 
 unfoldable pub integer : List ℕ → Reading
 integer s = ofLength 6 s (cond (integerForm s) (read (integerValue s)) (wrongForm (integerByte s)))

@@ -6,10 +6,10 @@ use lib.Dec.{leb, eqb}
 use lib.ListN.{length}
 use Rattle.laws.specs.Sign.{_and_, signed}
 use Rattle.laws.specs.Digits.{short}
-use Rattle.laws.specs.Starts.{lostAt}
 use Rattle.number.specs.Bytes.{isPoint, isDigit, pastOne, pastAll, digits, isSign, isLetter, starts, isMinus, number, isBlank, isEmpty}
 use Rattle.number.specs.declared.Reading.{Reading}
 use Rattle.number.specs.Integer.{read, refused, wrongForm, ofLength, unsignedPart}
+use Rattle.number.specs.RealStarts.{realByte}
 
 -- "digits with at most one point": u is the field past its sign
 abbrev pub fractionPart : List ℕ → List ℕ
@@ -70,54 +70,6 @@ billionths minus m u d =
 
 abbrev pub realValue : Bool → ℕ → List ℕ → Reading
 realValue minus bytes u = billionths minus (number 0 (mantissaDigits u)) (up u) (down bytes u)
-
--- 02, request 6: how far a start of a real field has come, byte by byte; `barePoint` is one before any digit. That this finds the byte that the
--- request means is `real-wrong-form` (proofs, Grammar).
-pub data Place : Type 0 where
-  inBlanks : Place
-  pastSign : Place
-  inWhole : Place
-  barePoint : Place
-  inFraction : Place
-  pastLetter : Place
-  pastPowerSign : Place
-  oneDigit : Place
-  twoDigits : Place
-  inRest : Place
-  lost : Place
-
--- behind a mantissa: its exponent's letter, or the blanks after it
-abbrev pub leaves : ℕ → Place
-leaves c = cond (isLetter c) pastLetter (cond (isBlank c) inRest lost)
-
-abbrev pub step : Place → ℕ → Place
-step inBlanks c = cond (isBlank c) inBlanks (cond (isSign c) pastSign (cond (isDigit c) inWhole (cond (isPoint c) barePoint lost)))
-step pastSign c = cond (isDigit c) inWhole (cond (isPoint c) barePoint lost)
-step inWhole c = cond (isDigit c) inWhole (cond (isPoint c) inFraction (leaves c))
-step barePoint c = cond (isDigit c) inFraction lost
-step inFraction c = cond (isDigit c) inFraction (leaves c)
-step pastLetter c = cond (isSign c) pastPowerSign (cond (isDigit c) oneDigit lost)
-step pastPowerSign c = cond (isDigit c) oneDigit lost
-step oneDigit c = cond (isDigit c) twoDigits (cond (isBlank c) inRest lost)
-step twoDigits c = cond (isBlank c) inRest lost
-step inRest c = cond (isBlank c) inRest lost
-step lost c = lost
-
-abbrev pub isLost : Place → Bool
-isLost inBlanks = false
-isLost pastSign = false
-isLost inWhole = false
-isLost barePoint = false
-isLost inFraction = false
-isLost pastLetter = false
-isLost pastPowerSign = false
-isLost oneDigit = false
-isLost twoDigits = false
-isLost inRest = false
-isLost lost = true
-
-unfoldable pub realByte : List ℕ → ℕ
-realByte s = lostAt step isLost inBlanks s
 
 unfoldable pub real : List ℕ → Reading
 real s =

@@ -60,7 +60,7 @@ pub fn starts_in_every_place(_: &mut Dice, visit: &mut Visit) {
 
 /// Right spellings of both readings with any one byte of another sort.
 pub fn one_byte_spoilt(dice: &mut Dice, visit: &mut Visit) {
-    for turn in 0..40_000 {
+    for turn in 0..20_000 {
         let mut text = match turn % 8 {
             0 => spelling::integer(dice),
             _ => spelling::moderate_real(dice),

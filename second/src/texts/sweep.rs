@@ -4,19 +4,27 @@ use super::{Visit, ALPHABET, LONGEST_TEXT};
 use crate::dice::Dice;
 use crate::examples::{INTEGERS, INTEGER_BYTES, POINTLESS_REALS, REALS, REAL_BYTES};
 
-/// Every example, alone and with every number of blanks on either side.
+/// Every example, alone and with every number of blanks on either side; those of a very byte, of
+/// which many are among the others too, with blanks on one side.
 pub fn padded_examples(_: &mut Dice, visit: &mut Visit) {
-    let read = INTEGERS.iter().chain(REALS).chain(POINTLESS_REALS);
-    let spoilt = INTEGER_BYTES.iter().chain(REAL_BYTES);
-    let texts = read.map(|row| row.0).chain(spoilt.map(|row| row.0));
-    for text in texts {
+    for (text, _, _) in INTEGERS.iter().chain(REALS).chain(POINTLESS_REALS) {
         let room = LONGEST_TEXT.saturating_sub(text.len());
         for left in 0..=room {
             for right in 0..=room - left {
-                visit(&[&vec![b' '; left], text, &vec![b' '; right]].concat());
+                visit(&padded(text, left, right));
             }
         }
     }
+    for (text, _) in INTEGER_BYTES.iter().chain(REAL_BYTES) {
+        for blanks in 0..=LONGEST_TEXT - text.len() {
+            visit(&padded(text, blanks, 0));
+            visit(&padded(text, 0, blanks));
+        }
+    }
+}
+
+fn padded(text: &[u8], left: usize, right: usize) -> Vec<u8> {
+    [&vec![b' '; left], text, &vec![b' '; right]].concat()
 }
 
 /// Lengths 0 to 30 and the neighbourhood of lengths that are short if their upper
