@@ -6,8 +6,10 @@ use Prim.Native.Nat.{ℕ, _+_, _-_}
 use lib.Dec.{eqb}
 use lib.ListN.{drop, length}
 use mathlib.Core.Path.{_≡_}
+use Rattle.laws.specs.Starts.{VeryByte}
 use Rattle.laws.specs.Texts.{every}
 use Rattle.number.specs.declared.Reading.{Reading}
+use Rattle.number.specs.Grammar.{SomeInteger, SomeReal}
 use Rattle.number.specs.Integer.{integer}
 use Rattle.number.specs.Real.{real}
 use Rattle.number.specs.Bytes.{isBlank}
@@ -95,3 +97,18 @@ pub data KeepsAll (block : List ℕ) : List Clause → Type 0 where
 pub data FirstBroken (block : List ℕ) (c : Clause) : List Clause → Type 0 where
   here : {cs : List Clause} → (c .kept block ≡ true → ⊥) → FirstBroken block c (c ∷ cs)
   later : {d : Clause} {cs : List Clause} → d .kept block ≡ true → FirstBroken block c cs → FirstBroken block c (d ∷ cs)
+
+-- ---- 02, request 6: what a refusal for wrong form points at
+
+-- a rule of form, of an integer or of a real by its first byte and its width, and the place of the field's very byte
+pub data PointsAt (block : List ℕ) : Clause → ℕ → Type 0 where
+  in-integer : (first width k : ℕ) → VeryByte SomeInteger (stretch first width block) k
+      → PointsAt block (formClause first (λ b. integer (stretch first width b))) (first + k - 1)
+  in-real : (first width k : ℕ) → VeryByte SomeReal (stretch first width block) k
+      → PointsAt block (formClause first (λ b. real (stretch first width b))) (first + k - 1)
+
+-- the first rule that a block breaks is one of form, and y is the place of its field's very byte
+pub record Pointed (block : List ℕ) (cs : List Clause) (y : ℕ) : Type 0 where
+  pub rule : Clause
+  pub broken : FirstBroken block rule cs
+  pub points : PointsAt block rule y

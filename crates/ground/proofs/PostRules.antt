@@ -13,15 +13,21 @@ use Rattle.laws.proofs.Tables.{all}
 use Rattle.number.specs.Integer.{integer}
 use Rattle.field.specs.declared.Fault.{Fault}
 use Rattle.field.specs.Field.{fault, faultOr, stretch, restFault}
-use Rattle.field.specs.Rules.{Clause, KeepsAll, FirstBroken, integerForms, blankRules}
+use Rattle.field.specs.Rules.{Clause, KeepsAll, FirstBroken, Pointed, integerForms, blankRules}
 use Rattle.field.proofs.Rules.{brokenOr, named, first-append, fault-first, fault-exactly}
 use Rattle.field.proofs.FieldRules.{Says, own-says, form-says}
+use Rattle.field.proofs.Points.{Forms, fault-pointed}
+use Rattle.field.proofs.Points.Forms.{none, other, integers}
 use Rattle.ground.specs.Posts.{judgePost, postsFault, postsRestFault}
 use Rattle.ground.specs.RulesPosts.{postRules, rulesPosts, rulesBlock}
 
 posts-named : (n byte : ℕ) (cs : List Clause) → all named cs ≡ true → all named (rulesPosts n byte ++ cs) ≡ true
 posts-named zero byte cs t = t
 posts-named (suc n) byte cs t = posts-named n (byte + 6) cs t
+
+block-forms : (n byte rest : ℕ) → Forms (rulesPosts n byte ++ blankRules rest)
+block-forms zero byte rest = other refl none
+block-forms (suc n) byte rest = integers byte 6 (other refl (block-forms n (byte + 6) rest))
 
 module _ (block : List ℕ) (h : length block ≡ 1024) where
   post-says : (byte : ℕ) → byte + 5 ≤ 1024 → Says block byte (postRules byte) (judgePost (integer (stretch byte 6 block)))
@@ -76,3 +82,7 @@ module _ (block : List ℕ) (h : length block ≡ 1024) where
 
     pub block-first : (c : Clause) → FirstBroken block c (rulesBlock byte n) → postsRestFault byte n block ≡ fault (c .kind) (c .byte block)
     block-first = fault-first block (rulesBlock byte n) (postsRestFault byte n block) block-is block-named
+
+    -- 02, request 6: wrong form at the very byte of its post
+    pub block-pointed : postsRestFault byte n block .kind ≡ 6 → Pointed block (rulesBlock byte n) (postsRestFault byte n block .byte)
+    block-pointed = fault-pointed (block-forms n byte (byte + 6 * n)) (postsRestFault byte n block) block-is

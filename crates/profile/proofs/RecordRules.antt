@@ -2,7 +2,7 @@
 use mathlib.Core.Bool.{Bool, not, true, false, cond}
 use mathlib.Core.List.{List, [], _∷_, _++_}
 use mathlib.Core.Logic.{_↔_}
-use mathlib.Core.Path.{_≡_, sym, _∙_, refl, ap}
+use mathlib.Core.Path.{_≡_, sym, _∙_, refl, ap, subst}
 use Prim.Native.Nat.{ℕ, _+_, _≤_, _*_, _%_, _^_}
 use borrow.Author.Tests.{eqb-true, eq-eqb, ne-eqb, leb-true}
 use lib.Dec.{eqb, leb}
@@ -19,10 +19,13 @@ use Rattle.number.specs.Integer.{integer}
 use Rattle.number.specs.Real.{real}
 use Rattle.field.proofs.Ranges.{posts-kind}
 use Rattle.field.specs.Field.{placeIn, fault, limits, stretch, wholeAt, realAt, restFault}
-use Rattle.field.specs.Rules.{Clause, KeepsAll, FirstBroken, clause, integerForms, realRules, blankRules}
+use Rattle.field.specs.Rules.{Clause, KeepsAll, FirstBroken, Pointed, clause, integerForms, realRules, blankRules}
 use Rattle.field.proofs.Rules.{brokenOr, named, first-append, broken-named, fault-first, fault-exactly}
 use Rattle.field.proofs.FieldRules.{owned, Says, own-says, form-says, integer-says, integer-field, real-field, Told, told-first, told-all}
 use Rattle.field.proofs.FieldRules.Told.{end, next}
+use Rattle.field.proofs.Points.{Forms, Each, forms-append, forms-joined, integer-by, real-forms, integer-forms, fault-pointed}
+use Rattle.field.proofs.Points.Forms.{none as no-rule, other}
+use Rattle.field.proofs.Points.Each.{end as no-field, next as field-then}
 use Rattle.profile.specs.RecordB.{headFields, headFault, headOf, recordB}
 use Rattle.profile.specs.RecordC.{isNegative, errorReading, fieldsC, recordC}
 use Rattle.profile.specs.RulesB.{manyPosts, headRules, rulesHead}
@@ -78,6 +81,36 @@ module _ (family number : ℕ) (block : List ℕ) where
   profile-refused c b =
       let n : eqb (c .kind) 0 ≡ false = ne-eqb (c .kind) 0 (broken-named b head-named) in
       rw (head-first c b, n)
+
+  -- 02, request 6: wrong form at the very byte of its field
+  head-forms : Forms (rulesHead family number)
+  unfolding rulesHead
+  head-forms =
+      other refl
+      (forms-joined
+      (field-then (integer-by 1 6 9 (λ b. limits 1 1 1 9) refl)
+      (field-then (integer-by 7 6 9 (λ b. limits number number 1 9) refl)
+      (field-then (integer-by 13 6 7 (λ b. manyPosts family) refl)
+      (field-then (integer-by 19 6 9 (λ b. limits 1 1 1 9) refl)
+      (field-then (real-forms 25 24)
+      (field-then (real-forms 49 24)
+      (field-then (forms-append (real-forms 73 24) (other refl no-rule))
+      (field-then (real-forms 97 24) (field-then (real-forms 121 24) no-field))))))))))
+
+  pub head-pointed : (y : ℕ) → recordB family number block ≡ Refused 6 y → Pointed block (rulesHead family number) y
+  unfolding recordB
+  head-pointed y e =
+      let f = headFault family number block in
+      by-test (eqb (f .kind) 0)
+      (λ z.
+      let q : Profile (headOf block) ≡ Refused 6 y = rw z at e in
+      let w : _≡_ {A = ℕ} 0 1 = cc in
+      absurd (omega arith))
+      (λ z.
+      let q : Refused (f .kind) (f .byte) ≡ Refused 6 y = rw z at e in
+      let k : f .kind ≡ 6 = cc in
+      let b : f .byte ≡ y = cc in
+      subst (Pointed block (rulesHead family number)) b (fault-pointed head-forms f head-is k))
 
 -- ---- record C
 error-is : (code : ℕ) (r : Reading)
@@ -136,3 +169,26 @@ module _ (block : List ℕ) where
 
   pub record-c-first : (c : Clause) → FirstBroken block c rulesC → recordC block ≡ fault (c .kind) (c .byte block)
   record-c-first = fault-first block rulesC (recordC block) c-is c-named
+
+  error-forms : (code first : ℕ) → Forms (errorRules code first)
+  error-forms code first = forms-append (integer-forms first 6) (other refl (other refl no-rule))
+
+  c-forms : Forms rulesC
+  unfolding rulesC
+  c-forms =
+      other refl
+      (forms-append
+      (forms-joined
+      (field-then (integer-by 1 6 9 (λ b. limits 0 1 1 9) refl)
+      (field-then (error-forms 1 7)
+      (field-then (error-forms 1 13)
+      (field-then (error-forms 1 19)
+      (field-then (error-forms 1 25)
+      (field-then (integer-by 31 6 9 (λ b. limits 0 1 1 9) refl)
+      (field-then (error-forms 31 37)
+      (field-then (error-forms 31 43) (field-then (error-forms 31 49) (field-then (error-forms 31 55) no-field)))))))))))
+      (other refl no-rule))
+
+  -- 02, request 6: wrong form at the very byte of its field
+  pub record-c-pointed : recordC block .kind ≡ 6 → Pointed block rulesC (recordC block .byte)
+  record-c-pointed = fault-pointed c-forms (recordC block) c-is

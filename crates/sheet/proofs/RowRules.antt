@@ -1,10 +1,10 @@
 -- The rules of a row of the table: made from the table alone, they say what its readings say.
-use mathlib.Core.Bool.{Bool, true, cond}
+use mathlib.Core.Bool.{Bool, true, cond, not}
 use mathlib.Core.List.{List, [], _∷_, _++_}
 use Prim.Native.Nat.{ℕ, _+_, _-_, _≤_}
 use mathlib.Core.Path.{_≡_, refl}
 use lib.Dec.{eqb, leb}
-use borrow.Author.Tests.{leb-true}
+use borrow.Author.Tests.{leb-true, not-true}
 use lib.ListN.{length}
 use Rattle.laws.specs.Family.{isCanadian}
 use Rattle.laws.specs.Sign.{_and_}
@@ -17,6 +17,8 @@ use Rattle.field.specs.declared.Limits.{Limits}
 use Rattle.field.specs.Rules.{Clause, textRules, mixedRules, fillerRules, integerForms, integerBy, realForms, realRules, realBy}
 use Rattle.field.proofs.Rules.{nonzero}
 use Rattle.field.proofs.FieldRules.{Says, form-says, integer-says, real-says, stepped-says, text-says, real-alone}
+use Rattle.field.proofs.Points.{Forms, integer-forms, integer-by, real-forms, real-by}
+use Rattle.field.proofs.Points.Forms.{none, other, reals}
 use Rattle.heading.specs.Heading.{Name, limitsOf, familyLimits}
 use Rattle.heading.specs.Heading.Name.{spacing}
 use Rattle.heading.proofs.LimitKinds.{family-kind}
@@ -80,3 +82,28 @@ module _ (family : ℕ) (block : List ℕ) (first width : ℕ) (h : length block
       let k = nonzero (kindOf name) in
       stepped-says block first width h some inside (kindOf name) (limitsIn family name) (and-second (leb width 24) k t)
       (family-kind family name (wholeAt 157 block) (wholeAt 535 block)) (leb-true width 24 (and-first (leb width 24) k t))
+
+-- ---- 02, request 6: a rule of kind 6 is one of form
+abbrev pub notForm : Rule → Bool
+notForm words = true
+notForm mixed = true
+notForm filler = true
+notForm form = true
+notForm free = true
+notForm plain = true
+notForm spaced = true
+notForm (whole name) = not (eqb (kindOf name) 6)
+notForm (stepped name) = not (eqb (kindOf name) 6)
+
+pub rule-forms : (family first width : ℕ) (r : Rule) → notForm r ≡ true → Forms (clausesOf family first width r)
+rule-forms family first width words t = other refl none
+rule-forms family first width mixed t = other refl none
+rule-forms family first width filler t = other refl none
+rule-forms family first width form t = reals first width none
+rule-forms family first width free t = real-forms first width
+rule-forms family first width plain t = integer-forms first width
+rule-forms family first width spaced t =
+    by-test (isCanadian family) (λ e. rw e (real-forms first width)) (λ e. rw e (real-by first width (kindOf spacing) spacingIn refl))
+rule-forms family first width (whole name) t =
+    integer-by first width (kindOf name) (limitsIn family name) (not-true (eqb (kindOf name) 6) t)
+rule-forms family first width (stepped name) t = real-by first width (kindOf name) (limitsIn family name) (not-true (eqb (kindOf name) 6) t)

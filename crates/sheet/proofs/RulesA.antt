@@ -15,16 +15,18 @@ use Rattle.laws.proofs.Tables.{all}
 use Rattle.laws.proofs.Families.{each-family}
 use Rattle.field.specs.declared.Fault.{Fault}
 use Rattle.field.specs.Field.{fault}
-use Rattle.field.specs.Rules.{Clause, KeepsAll, FirstBroken}
+use Rattle.field.specs.Rules.{Clause, KeepsAll, FirstBroken, Pointed}
 use Rattle.field.proofs.Rules.{named, brokenOr, first-append, kept-or-broken, keeps-first, broken-first, broken-named}
 use Rattle.field.proofs.FieldRules.{Says}
+use Rattle.field.proofs.Points.{Forms, forms-append, broken-pointed}
+use Rattle.field.proofs.Points.Forms.{none, other}
 use Rattle.frame.specs.Frame.{familyFault}
 use Rattle.frame.specs.declared.Header.{Header}
 use Rattle.heading.specs.Heading.{headerOf}
 use Rattle.sheet.specs.RulesA.{rulesA, wholeRules, rulesCanadian, canadianWhole, rulesFor}
 use Rattle.sheet.specs.RecordA.{canadianFront, usgsFront, back, fieldsOf, fieldsFault, Row, judgeRow, firstFault, cornerTold, wholeOf, faultOf, recordOf}
 use Rattle.sheet.specs.declared.Checked.the-variants.{Sheet, Refused}
-use Rattle.sheet.proofs.RowRules.{clausesOf, fieldClauses, suits, rule-says}
+use Rattle.sheet.proofs.RowRules.{clausesOf, fieldClauses, suits, rule-says, notForm, rule-forms}
 use Rattle.sheet.proofs.HeaderA.{verdict-length}
 
 -- ---- the rules of record A
@@ -178,3 +180,42 @@ module _ (family : ℕ) (k : known family ≡ true) (block : List ℕ) where
 
     pub sheet-whole : familyFault family h .kind ≡ 0
     sheet-whole = rw (sheet-header e) (rw (eq-eqb (fieldsFault family block .kind) 0 sheet-fine, sheet-corner) at sheet-faults)
+
+-- ---- 02, request 6: wrong form at the very byte of its field
+rows-forms : (family : ℕ) (rs : List Row) → all (λ r. notForm (r .rule)) rs ≡ true → Forms (fieldClauses family rs)
+rows-forms family [] t = none
+rows-forms family (r ∷ rs) t =
+    let one = notForm (r .rule) in
+    let rest = all (λ (q : Row). notForm (q .rule)) rs in
+    forms-append (rule-forms family (r .first) (r .width) (r .rule) (and-first one rest t)) (rows-forms family rs (and-second one rest t))
+
+whole-forms : (family : ℕ) → Forms (wholeFor family)
+whole-forms family =
+    by-test (isCanadian family) (λ e. rw e (other refl (other refl (other refl (other refl none)))))
+    (λ e. rw e (other refl (other refl (other refl none))))
+
+module _ (family : ℕ) (k : known family ≡ true) where
+  rows-other : all (λ r. notForm (r .rule)) (fieldsOf family) ≡ true
+  unfolding canadianFront usgsFront back
+  rows-other = each-family (λ f. all (λ r. notForm (r .rule)) (fieldsOf f) ≡ true) family k refl refl
+
+  rules-forms : Forms (rulesFor family)
+  rules-forms = rw (rules-of-table family k) (forms-append (rows-forms family (fieldsOf family) rows-other) (whole-forms family))
+
+pub record-a-pointed : (family : ℕ) (block : List ℕ) (y : ℕ) → recordOf family block ≡ Refused 6 y → Pointed block (rulesFor family) y
+unfolding recordOf
+record-a-pointed family block y e =
+    by-test (eqb (length block) 1024)
+    (λ l.
+    by-test (known family)
+    (λ k.
+    let b = refused-first family k block 6 y (eqb-true (length block) 1024 l) .0 e in
+    broken-pointed (rules-forms family k) (b .1) (b .2) (b .3))
+    (λ k.
+    let q : Refused 2 0 ≡ Refused 6 y = rw (l, k) at e in
+    let z : _≡_ {A = ℕ} 2 6 = cc in
+    absurd (omega arith)))
+    (λ l.
+    let q : Refused 1 0 ≡ Refused 6 y = rw l at e in
+    let z : _≡_ {A = ℕ} 1 6 = cc in
+    absurd (omega arith))
