@@ -1,5 +1,5 @@
 // An integer field of six bytes, as every post is, read from its last byte back in six written steps; what it answers is number's integer. From the
-// end nobody sees which byte first makes a form impossible: a field of wrong form is read again from its first byte.
+// end nobody sees which byte first makes a form impossible: a field in which no number is found so is read again from its first byte.
 use number::Reading;
 ghost use mathlib.Core.Path.{_≡_};
 ghost use Prim.Native.Nat.{_<_, _^_};
@@ -8,7 +8,13 @@ ghost use Rattle.laws.specs.Sign.{signed};
 ghost use Rattle.laws.specs.Texts.{every};
 ghost use Rattle.number.specs.Bytes.{isBlank, isDigit};
 ghost use Rattle.number.specs.Integer.{integer};
-ghost use Rattle.six.specs.Steps.{isFront, FrontAsked};
+ghost use Rattle.six.specs.Steps.{isFront, FrontAsked, Finds};
+
+// The number found from the end. Smaller than a reading, it stays in registers: a post has it, and seldom needs more.
+struct Six {
+    good: bool,
+    value: i64,
+}
 
 fn is_digit(c: u8) -> bool
     ensures { λ r. ⌜ r ≡ isDigit c ⌝ }
@@ -53,31 +59,39 @@ fn join(minus: bool, size: u64) -> i64
 }
 
 // What stands before the digits: at k a sign or a blank, and blanks before it.
-fn front(field: &[u8], k: usize, size: u64) -> Reading
+fn front(field: &[u8], k: usize, size: u64) -> Six
     requires { ⌜ FrontAsked (now field) k size ⌝ }
-    ensures { λ r. ⌜ r ≡ integer (now (field .entry)) ⌝ }
+    ensures { λ r. ⌜ Finds (now (field .entry)) r ⌝ }
 {
     let c = field[k];
     if !is_front(c) {
-        return number::read_integer(field);
+        return Six {
+            good: false,
+            value: 0,
+        };
     }
     if !all_blank(&field[..k]) {
-        return number::read_integer(field);
+        return Six {
+            good: false,
+            value: 0,
+        };
     }
-    Reading {
-        kind: 0,
+    Six {
+        good: true,
         value: join(c == 45, size),
-        byte: 0,
     }
 }
 
-fn from_the_end(field: &[u8]) -> Reading
+fn from_the_end(field: &[u8]) -> Six
     requires { ⌜ length (now field) ≡ 6 ⌝ }
-    ensures { λ r. ⌜ r ≡ integer (now (field .entry)) ⌝ }
+    ensures { λ r. ⌜ Finds (now (field .entry)) r ⌝ }
 {
     let f = field[5];
     if !is_digit(f) {
-        return number::read_integer(field);
+        return Six {
+            good: false,
+            value: 0,
+        };
     }
     let ones = (f - 48) as u64;
     let e = field[4];
@@ -105,10 +119,9 @@ fn from_the_end(field: &[u8]) -> Reading
         return front(field, 0, five);
     }
     let six = five + 100000 * ((a - 48) as u64);
-    Reading {
-        kind: 0,
+    Six {
+        good: true,
         value: join(false, six),
-        byte: 0,
     }
 }
 
@@ -119,5 +132,13 @@ pub fn read_six(field: &[u8]) -> Reading
     if field.len() != 6 {
         return number::read_integer(field);
     }
-    from_the_end(field)
+    let six = from_the_end(field);
+    if six.good {
+        return Reading {
+            kind: 0,
+            value: six.value,
+            byte: 0,
+        };
+    }
+    number::read_integer(field)
 }

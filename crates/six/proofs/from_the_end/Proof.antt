@@ -6,6 +6,7 @@ use borrow.Author.Tests.{not-false}
 use lib.ListN.{getD}
 use mir.Facts.{toZ-ofZ}
 use mir.Syntax.{w64}
+use Rattle.laws.proofs.Tests.{clash}
 use Rattle.number.specs.Bytes.{isDigit}
 use Rattle.number.specs.Integer.{read}
 use Rattle.six.proofs.Fronts.{low, top, asked4, asked3, asked2, asked1, asked0, all-six, six-small}
@@ -38,11 +39,8 @@ shared-slice-read-f c = search needs
 is-digit-requires : tie.Need-is-digit-requires
 is-digit-requires c κs = search needs
 
-read-integer-requires : tie.Need-read-integer-requires
-read-integer-requires c κs = search needs
-
 returns : tie.Need-returns
-returns c = c .read-integer .ensures
+returns c = λ g. clash (sym g)
 
 sub-ones : tie.Need-sub-ones
 sub-ones c = low (c .before .before .before .before .args .field .now) (c .before .before .before .before .pre) 5 (t5 c)
@@ -180,10 +178,11 @@ join-requires c κs = six-small (c .before .before .before .before .before .befo
 
 returns-7 : tie.Need-returns-7
 returns-7 c =
+    λ g.
     let e = c .before in
     let j = c .join in
-    ap read (toZ-ofZ {w = w64} {z = j .result} (record { sfits = j .ok }) ∙ j .ensures)
-    ∙ sym (all-six (e .before .before .before .before .before .before .before .before .before .before .before .before .before .before .before .before .before .before .before .args .field .now) (e .before .before .before .before .before .before .before .before .before .before .before .before .before .before .before .before .before .before .before .pre) (t5 (e .before .before .before .before .before .before .before .before .before .before .before .before .before .before .before)) (t4 (e .before .before .before .before .before .before .before .before .before .before .before .before)) (t3 (e .before .before .before .before .before .before .before .before .before)) (t2 (e .before .before .before .before .before .before)) (t1 (e .before .before .before)) (t0 e))
+    all-six (e .before .before .before .before .before .before .before .before .before .before .before .before .before .before .before .before .before .before .before .args .field .now) (e .before .before .before .before .before .before .before .before .before .before .before .before .before .before .before .before .before .before .before .pre) (t5 (e .before .before .before .before .before .before .before .before .before .before .before .before .before .before .before)) (t4 (e .before .before .before .before .before .before .before .before .before .before .before .before)) (t3 (e .before .before .before .before .before .before .before .before .before)) (t2 (e .before .before .before .before .before .before)) (t1 (e .before .before .before)) (t0 e)
+    ∙ sym (ap read (toZ-ofZ {w = w64} {z = j .result} (record { sfits = j .ok }) ∙ j .ensures))
 
 pub from-the-end-spec : {M : Type 1} → statement M
 from-the-end-spec =
@@ -191,7 +190,6 @@ from-the-end-spec =
     (tie.spec
     shared-slice-read-f
     is-digit-requires
-    read-integer-requires
     returns
     sub-ones
     cast-ones

@@ -8,6 +8,7 @@ use mir.Facts.{toZ-ofZ}
 use mir.Syntax.{w64}
 use mir.Val.{toZ, ofZ}
 use Rattle.laws.specs.Sign.{signed}
+use Rattle.laws.proofs.Tests.{clash}
 use Rattle.number.specs.Bytes.{isMinus}
 use Rattle.number.specs.Integer.{read}
 use Rattle.six.proofs.Fronts.{front-read}
@@ -21,11 +22,8 @@ shared-slice-read-c c = search needs
 is-front-requires : tie.Need-is-front-requires
 is-front-requires c κs = search needs
 
-read-integer-requires : tie.Need-read-integer-requires
-read-integer-requires c κs = search needs
-
 returns : tie.Need-returns
-returns c = c .read-integer .ensures
+returns c = λ g. clash (sym g)
 
 slice-aggregate-all-blank : tie.Need-slice-aggregate-all-blank
 slice-aggregate-all-blank c =
@@ -35,27 +33,24 @@ slice-aggregate-all-blank c =
 all-blank-requires : tie.Need-all-blank-requires
 all-blank-requires c κs = search needs
 
-read-integer-requires-2 : tie.Need-read-integer-requires-2
-read-integer-requires-2 c κs = search needs
-
 returns-2 : tie.Need-returns-2
-returns-2 c = c .read-integer2 .ensures
+returns-2 c = λ g. clash (sym g)
 
 join-requires : tie.Need-join-requires
 join-requires c κs = search needs
 
 returns-3 : tie.Need-returns-3
 returns-3 c =
+    λ g.
     let b = c .before .before in
     let f = b .before .before .before in
     let s = f .before .before .before in
     let j = c .join in
     let back : toZ w64 (ofZ w64 (j .result)) ≡ signed (isMinus (getD (s .args .field .now) (s .args .k) 0)) (s .args .size)
     = toZ-ofZ {w = w64} {z = j .result} (record { sfits = j .ok }) ∙ j .ensures in
-    ap read back
-    ∙ sym
-    (front-read (s .args .field .now) (s .args .k) (s .args .size) (s .pre) (sym (f .is-front .ensures) ∙ not-false _ (b .before .before .if1 .left))
-    (sym (b .all-blank .ensures) ∙ not-false _ (c .before .if2 .left)))
+    front-read (s .args .field .now) (s .args .k) (s .args .size) (s .pre) (sym (f .is-front .ensures) ∙ not-false _ (b .before .before .if1 .left))
+    (sym (b .all-blank .ensures) ∙ not-false _ (c .before .if2 .left))
+    ∙ sym (ap read back)
 
 pub front-spec : {M : Type 1} → statement M
 front-spec =
@@ -63,11 +58,9 @@ front-spec =
     (tie.spec
     shared-slice-read-c
     is-front-requires
-    read-integer-requires
     returns
     slice-aggregate-all-blank
     all-blank-requires
-    read-integer-requires-2
     returns-2
     join-requires
     returns-3)
