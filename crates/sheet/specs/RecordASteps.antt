@@ -1,7 +1,7 @@
 -- How the code walks record A: its table as columns of numbers, one entry for each row. The public promise cites `recordA` alone.
 use Prim.Native.Nat.{ℕ, suc, _<_, _≤_, _+_, _-_}
 use lib.ListN.{getD, length, take, drop}
-use mathlib.Core.Bool.{cond}
+use mathlib.Core.Bool.{Bool, cond}
 use lib.Dec.{eqb, ltb}
 use mathlib.Core.List.{List, [], _∷_, _++_}
 use lib.IntN.{pos, ℤ}
@@ -67,12 +67,16 @@ nameOf spaced = numberOf spacing
 nameOf (whole name) = numberOf name
 nameOf (stepped name) = numberOf name
 
+-- text or blanks as they must be, or kind 5
+abbrev pub textKept : Bool → Reading
+textKept kept = cond kept (read (pos 0)) (refused 5)
+
 -- a field judged by its code and limits: text of either kind, blanks, a real's form; or a number
 abbrev pub judgeText : ℕ → List ℕ → Reading
 judgeText code f =
-    cond (eqb code 0) (cond (every isWord f) (read (pos 0)) (refused 5))
-    (cond (eqb code 1) (cond (every isText f) (read (pos 0)) (refused 5))
-    (cond (eqb code 2) (cond (every isBlank f) (read (pos 0)) (refused 5)) (cond (eqb (real f .kind) 6) (real f) (read (pos 0)))))
+    cond (eqb code 0) (textKept (every isWord f))
+    (cond (eqb code 1) (textKept (every isText f))
+    (cond (eqb code 2) (textKept (every isBlank f)) (cond (eqb (real f .kind) 6) (real f) (read (pos 0)))))
 
 abbrev pub judgeNumber : ℕ → ℕ → Limits → List ℕ → Reading
 judgeNumber family code l f =

@@ -12,8 +12,8 @@ ghost use Rattle.laws.specs.Family.{known, isCanadian};
 ghost use Rattle.laws.specs.Sign.{implies};
 ghost use Rattle.corner.specs.Corner.{saysCorner};
 ghost use Rattle.sheet.specs.RecordA.{recordA, recordOf, judge, judgeRow};
-ghost use Rattle.sheet.specs.RecordA.Rule.{words, mixed, filler, form};
-ghost use Rattle.sheet.specs.RecordASteps.{rowAt, codeOf, nameOf, judgeText, judgeNumber, judgeBy, frontFrom, frontTo, Begun, Walked, Judged, placeOf, valueFrom, numberFrom, cornerFrom, headerFrom};
+ghost use Rattle.sheet.specs.RecordA.Rule.{form};
+ghost use Rattle.sheet.specs.RecordASteps.{rowAt, codeOf, nameOf, textKept, judgeText, judgeNumber, judgeBy, frontFrom, frontTo, Begun, Walked, Judged, placeOf, valueFrom, numberFrom, cornerFrom, headerFrom};
 
 pub enum Checked {
     Sheet(Header),
@@ -280,44 +280,11 @@ fn name(i: usize) -> usize
     NAME[i]
 }
 
-fn judge_words(field: &[u8]) -> Reading
-    ensures { λ r. ⌜ r ≡ judge 0 words 0 0 (now (field .entry)) ⌝ }
+// A stretch of text or blanks has no number: it is as it must be, or kind 5.
+fn stretch_judged(kept: bool) -> Reading
+    ensures { λ r. ⌜ r ≡ textKept kept ⌝ }
 {
-    if field::all_words(field) {
-        return Reading {
-            kind: 0,
-            value: 0,
-            byte: 0,
-        };
-    }
-    Reading {
-        kind: 5,
-        value: 0,
-        byte: 0,
-    }
-}
-
-fn judge_mixed(field: &[u8]) -> Reading
-    ensures { λ r. ⌜ r ≡ judge 0 mixed 0 0 (now (field .entry)) ⌝ }
-{
-    if field::all_text(field) {
-        return Reading {
-            kind: 0,
-            value: 0,
-            byte: 0,
-        };
-    }
-    Reading {
-        kind: 5,
-        value: 0,
-        byte: 0,
-    }
-}
-
-fn judge_filler(field: &[u8]) -> Reading
-    ensures { λ r. ⌜ r ≡ judge 0 filler 0 0 (now (field .entry)) ⌝ }
-{
-    if field::blank_from(field, 0) {
+    if kept {
         return Reading {
             kind: 0,
             value: 0,
@@ -349,13 +316,13 @@ fn judge_text(code: u8, field: &[u8]) -> Reading
     ensures { λ r. ⌜ r ≡ judgeText code (now (field .entry)) ⌝ }
 {
     if code == 0 {
-        return judge_words(field);
+        return stretch_judged(field::all_words(field));
     }
     if code == 1 {
-        return judge_mixed(field);
+        return stretch_judged(field::all_text(field));
     }
     if code == 2 {
-        return judge_filler(field);
+        return stretch_judged(field::blank_from(field, 0));
     }
     judge_form(field)
 }
