@@ -3,9 +3,9 @@
 use mathlib.Core.Bool.{Bool, true, false, cond, not}
 use mathlib.Core.List.{List, [], _++_}
 use mathlib.Core.Path.{_≡_, refl, sym, _∙_, ap, subst}
-use Prim.Native.Nat.{ℕ, _+_, _-_, _*_, min}
+use Prim.Native.Nat.{ℕ, _+_, _-_, min}
 use native.Mathlib.Omega.{arith}
-use borrow.Author.Tests.{eqb-true, eqb-false, ltb-false, eq-eqb}
+use borrow.Author.Tests.{eqb-true, eqb-false, ltb-false}
 use lib.Dec.{eqb, ltb}
 use lib.IntN.{ℤ}
 use lib.ListN.{length}
@@ -35,7 +35,7 @@ use Rattle.session.specs.declared.Profile.{Profile}
 use Rattle.session.specs.Session.{sound, busy, complete, openBlocks}
 use Rattle.delivery.specs.declared.Answer.the-variants.{Refused}
 use Rattle.delivery.specs.declared.Refusal.{Refusal}
-use Rattle.delivery.specs.Deliver.{Lent, Room, roomOf, tooShort, Verdict, again, wrong, begins, fills, unless, refusal, stated, closeFault, filledSession, closedSession, nextCell, heightsHere, postsHere, filling, further, columnFits, columnPlace, rowFits, rowPlace, firstColumn, opened, placed, opening, finishedSession, later, beginning, verdictOf, answerOf, deliverOf}
+use Rattle.delivery.specs.Deliver.{Lent, Room, roomOf, tooShort, Verdict, again, wrong, begins, fills, unless, refusal, stated, closeFault, filledSession, closedSession, nextCell, heightsHere, postsHere, filling, further, columnFits, columnPlace, rowFits, rowPlace, firstColumn, opened, opening, finishedSession, later, beginning, verdictOf, answerOf, deliverOf}
 use Rattle.delivery.specs.RulesDue.{rulesFirst, rulesLater, rulesDue}
 
 -- a profile closes, or is refused for another reason than a form
@@ -92,8 +92,6 @@ module _ (number : ℕ) (block : List ℕ) (cs : List Clause) where
   right-beginning room (NoSheet kind byte) z p =
       λ n y q.
       let m : n ≡ 0 = cc in
-      let k : kind ≡ 6 = cc in
-      let b : byte ≡ y = cc in
       let e : NoSheet kind byte ≡ NoSheet 6 y = cc in
       (m ∙ sym z, p y e)
   right-beginning room (Sheet h) z p =

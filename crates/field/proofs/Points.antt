@@ -1,6 +1,6 @@
 -- 02, request 6, of a list of rules: where every rule of kind 6 is one of form, a fault of kind 6 points at the very byte of the first field that breaks
 -- its rules.
-use mathlib.Core.Bool.{true, false, not}
+use mathlib.Core.Bool.{true, false}
 use mathlib.Core.List.{List, [], _∷_, _++_}
 use mathlib.Core.Logic.{_⊎_, inl, inr}
 use mathlib.Core.Path.{_≡_, refl, sym, _∙_, ap, subst}
@@ -9,6 +9,7 @@ use native.Mathlib.Omega.{arith}
 use borrow.Author.Tests.{eqb-true, eqb-false}
 use lib.Dec.{eqb}
 use Rattle.laws.specs.Lists.{joined}
+use Rattle.laws.proofs.Starts.{one-very-byte}
 use Rattle.laws.proofs.Tests.{by-test}
 use Rattle.number.specs.declared.Reading.{Reading}
 use Rattle.number.specs.Integer.{integer}
@@ -17,11 +18,11 @@ use Rattle.number.proofs.Grammar.{integer-points, real-points}
 use Rattle.field.specs.Field.{fault, stretch}
 use Rattle.field.specs.declared.Fault.{Fault}
 use Rattle.field.specs.declared.Limits.{Limits}
-use Rattle.field.specs.Rules.{Clause, clause, formClause, spared, integerForms, integerBy, realForms, realRules, realBy, KeepsAll, FirstBroken, PointsAt, Pointed}
+use Rattle.field.specs.Rules.{Clause, formClause, spared, integerForms, integerBy, realRules, realBy, KeepsAll, FirstBroken, PointsAt, Pointed}
 use Rattle.field.specs.Rules.KeepsAll.{none as kept-none, more}
 use Rattle.field.specs.Rules.FirstBroken.{here, later}
 use Rattle.field.specs.Rules.PointsAt.{in-integer, in-real}
-use Rattle.field.proofs.Rules.{brokenOr, kept-or-broken, keeps-first, broken-first}
+use Rattle.field.proofs.Rules.{brokenOr, kept-or-broken, one-first, keeps-first, broken-first}
 
 -- every rule of kind 6 is one of form
 pub data Forms : List Clause → Type 0 where
@@ -90,6 +91,26 @@ module _ {block : List ℕ} {cs : List Clause} (forms : Forms cs) where
       go (inr b) =
           let e = is ∙ broken-first (b .1) (fault 0 0) in
           broken-pointed (b .1) (sym (ap (λ (x : Fault). x .kind) e) ∙ k) (sym (ap (λ (x : Fault). x .byte) e))
+
+-- ---- there is one such place at most
+
+first-breaks : {block : List ℕ} {c : Clause} {cs : List Clause} → FirstBroken block c cs → c .kept block ≡ true → ⊥
+first-breaks (here n) = n
+first-breaks (later k b) = first-breaks b
+
+the-byte : {block : List ℕ} {c : Clause} {y : ℕ} → (c .kept block ≡ true → ⊥) → PointsAt block c y → y ≡ c .byte block
+the-byte {block} b (in-integer first width k v) =
+    let s = stretch first width block in
+    ap (λ (x : ℕ). first + x - 1) (one-very-byte v (integer-points s (not-spared (integer s) b)))
+the-byte {block} b (in-real first width k v) =
+    let s = stretch first width block in
+    ap (λ (x : ℕ). first + x - 1) (one-very-byte v (real-points s (not-spared (real s) b)))
+
+pub one-place : {block : List ℕ} {cs : List Clause} {y z : ℕ} → Pointed block cs y → Pointed block cs z → y ≡ z
+one-place {block} p q =
+    the-byte (first-breaks (p .broken)) (p .points)
+    ∙ ap (λ (c : Clause). c .byte block) (one-first (p .broken) (q .broken))
+    ∙ sym (the-byte (first-breaks (q .broken)) (q .points))
 
 -- ---- rules with more of them behind, or before them
 broken-front : {block : List ℕ} {c : Clause} {xs : List Clause} (ys : List Clause) → FirstBroken block c xs → FirstBroken block c (xs ++ ys)

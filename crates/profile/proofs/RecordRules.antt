@@ -23,7 +23,7 @@ use Rattle.field.specs.Rules.{Clause, KeepsAll, FirstBroken, Pointed, clause, i
 use Rattle.field.proofs.Rules.{brokenOr, named, first-append, broken-named, fault-first, fault-exactly}
 use Rattle.field.proofs.FieldRules.{owned, Says, own-says, form-says, integer-says, integer-field, real-field, Told, told-first, told-all}
 use Rattle.field.proofs.FieldRules.Told.{end, next}
-use Rattle.field.proofs.Points.{Forms, Each, forms-append, forms-joined, integer-by, real-forms, integer-forms, fault-pointed}
+use Rattle.field.proofs.Points.{Forms, forms-append, forms-joined, integer-by, real-forms, integer-forms, fault-pointed}
 use Rattle.field.proofs.Points.Forms.{none as no-rule, other}
 use Rattle.field.proofs.Points.Each.{end as no-field, next as field-then}
 use Rattle.profile.specs.RecordB.{headFields, headFault, headOf, recordB}

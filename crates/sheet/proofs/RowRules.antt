@@ -11,7 +11,6 @@ use Rattle.laws.specs.Sign.{_and_}
 use Rattle.laws.specs.Texts.{every}
 use Rattle.laws.proofs.Tests.{and-first, and-second, by-test}
 use Rattle.number.specs.Bytes.{isBlank}
-use Rattle.number.specs.Real.{real}
 use Rattle.field.specs.Field.{isWord, isText, stretch, wholeAt}
 use Rattle.field.specs.declared.Limits.{Limits}
 use Rattle.field.specs.Rules.{Clause, textRules, mixedRules, fillerRules, integerForms, integerBy, realForms, realRules, realBy}
@@ -84,18 +83,20 @@ module _ (family : ℕ) (block : List ℕ) (first width : ℕ) (h : length block
       (family-kind family name (wholeAt 157 block) (wholeAt 535 block)) (leb-true width 24 (and-first (leb width 24) k t))
 
 -- ---- 02, request 6: a rule of kind 6 is one of form
-abbrev pub notForm : Rule → Bool
-notForm words = true
-notForm mixed = true
-notForm filler = true
-notForm form = true
-notForm free = true
-notForm plain = true
-notForm spaced = true
-notForm (whole name) = not (eqb (kindOf name) 6)
-notForm (stepped name) = not (eqb (kindOf name) 6)
 
-pub rule-forms : (family first width : ℕ) (r : Rule) → notForm r ≡ true → Forms (clausesOf family first width r)
+-- limits, where a row has some, are refused with another kind than 6
+abbrev pub otherKind : Rule → Bool
+otherKind words = true
+otherKind mixed = true
+otherKind filler = true
+otherKind form = true
+otherKind free = true
+otherKind plain = true
+otherKind spaced = true
+otherKind (whole name) = not (eqb (kindOf name) 6)
+otherKind (stepped name) = not (eqb (kindOf name) 6)
+
+pub rule-forms : (family first width : ℕ) (r : Rule) → otherKind r ≡ true → Forms (clausesOf family first width r)
 rule-forms family first width words t = other refl none
 rule-forms family first width mixed t = other refl none
 rule-forms family first width filler t = other refl none

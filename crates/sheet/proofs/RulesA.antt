@@ -26,7 +26,7 @@ use Rattle.heading.specs.Heading.{headerOf}
 use Rattle.sheet.specs.RulesA.{rulesA, wholeRules, rulesCanadian, canadianWhole, rulesFor}
 use Rattle.sheet.specs.RecordA.{canadianFront, usgsFront, back, fieldsOf, fieldsFault, Row, judgeRow, firstFault, cornerTold, wholeOf, faultOf, recordOf}
 use Rattle.sheet.specs.declared.Checked.the-variants.{Sheet, Refused}
-use Rattle.sheet.proofs.RowRules.{clausesOf, fieldClauses, suits, rule-says, notForm, rule-forms}
+use Rattle.sheet.proofs.RowRules.{clausesOf, fieldClauses, suits, rule-says, otherKind, rule-forms}
 use Rattle.sheet.proofs.HeaderA.{verdict-length}
 
 -- ---- the rules of record A
@@ -182,11 +182,11 @@ module _ (family : ℕ) (k : known family ≡ true) (block : List ℕ) where
     sheet-whole = rw (sheet-header e) (rw (eq-eqb (fieldsFault family block .kind) 0 sheet-fine, sheet-corner) at sheet-faults)
 
 -- ---- 02, request 6: wrong form at the very byte of its field
-rows-forms : (family : ℕ) (rs : List Row) → all (λ r. notForm (r .rule)) rs ≡ true → Forms (fieldClauses family rs)
+rows-forms : (family : ℕ) (rs : List Row) → all (λ r. otherKind (r .rule)) rs ≡ true → Forms (fieldClauses family rs)
 rows-forms family [] t = none
 rows-forms family (r ∷ rs) t =
-    let one = notForm (r .rule) in
-    let rest = all (λ (q : Row). notForm (q .rule)) rs in
+    let one = otherKind (r .rule) in
+    let rest = all (λ (q : Row). otherKind (q .rule)) rs in
     forms-append (rule-forms family (r .first) (r .width) (r .rule) (and-first one rest t)) (rows-forms family rs (and-second one rest t))
 
 whole-forms : (family : ℕ) → Forms (wholeFor family)
@@ -195,9 +195,9 @@ whole-forms family =
     (λ e. rw e (other refl (other refl (other refl none))))
 
 module _ (family : ℕ) (k : known family ≡ true) where
-  rows-other : all (λ r. notForm (r .rule)) (fieldsOf family) ≡ true
+  rows-other : all (λ r. otherKind (r .rule)) (fieldsOf family) ≡ true
   unfolding canadianFront usgsFront back
-  rows-other = each-family (λ f. all (λ r. notForm (r .rule)) (fieldsOf f) ≡ true) family k refl refl
+  rows-other = each-family (λ f. all (λ r. otherKind (r .rule)) (fieldsOf f) ≡ true) family k refl refl
 
   rules-forms : Forms (rulesFor family)
   rules-forms = rw (rules-of-table family k) (forms-append (rows-forms family (fieldsOf family) rows-other) (whole-forms family))

@@ -10,7 +10,8 @@ ghost use Rattle.number.specs.Bytes.{isBlank, isDigit};
 ghost use Rattle.number.specs.Integer.{integer};
 ghost use Rattle.six.specs.Steps.{isFront, FrontAsked, Finds};
 
-// The number found from the end. Smaller than a reading, it stays in registers: a post has it, and seldom needs more.
+// The number found from the end, or none. No reading: with `read_integer` in each arm that finds none, a post took 38 instructions more
+// (docs/SPEED.md).
 struct Six {
     good: bool,
     value: i64,
