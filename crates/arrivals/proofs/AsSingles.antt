@@ -11,14 +11,13 @@ use Rattle.laws.proofs.Tests.{by-test}
 use Rattle.laws.proofs.Lists.{append-nil, append-brackets}
 use Rattle.ground.specs.Blocks.{block_at, blocks_in}
 use Rattle.session.specs.declared.Session.{Session}
-use Rattle.lent.specs.Lent.{Lent, lend}
-use Rattle.delivery.specs.Deliver.{deliver_of, lent_after}
+use Rattle.delivery.specs.Deliver.{Lent, lend, deliver_of, lent_after}
 use Rattle.runs.specs.declared.Ran.{Ran}
 use Rattle.runs.specs.Run.{Running, is_refused, with_block, run_to, run_of, ran_of}
 use Rattle.runs.proofs.RunLaws.{run_none, block_more, ended, goes_on}
 use Rattle.runs.proofs.Ends.{answer, stays, steps, counted-one, all-counted}
-use Rattle.meaning.specs.Deliveries.{Delivery, Call, Calls, no_call, called, session_after, lent_after_all, taken_text, bytes_if, deliveries}
-use Rattle.arrivals.specs.Arrivals.{RunCall, RunPromised, Arrival, single, several, Arrivals, none_yet, one_more, run_more, session_last, lent_last, call_of, calls_to, run_calls, singles, sent_to, looked_at}
+use Rattle.meaning.specs.Deliveries.{Delivery, Call, Calls, no_call, called, session_after, grid_after, taken_text, bytes_if, deliveries}
+use Rattle.arrivals.specs.Arrivals.{RunCall, RunPromised, Arrival, single, several, Arrivals, none_yet, one_more, run_more, session_last, grid_last, call_of, calls_to, run_calls, singles, sent_to, looked_at}
 
 -- ---- calls joined
 
@@ -26,12 +25,12 @@ pub after-joined : (s : Session) (cs ds : List Call) → session_after s (cs ++ 
 after-joined s [] ds = refl
 after-joined s (c ∷ cs) ds = after-joined c.returned.session cs ds
 
-pub lent-joined : (l : Lent) (cs ds : List Call) → lent_after_all l (cs ++ ds) ≡ lent_after_all (lent_after_all l cs) ds
-lent-joined l [] ds = refl
-lent-joined l (c ∷ cs) ds = lent-joined c.left cs ds
+pub grid-joined : (g : List ℤ) (cs ds : List Call) → grid_after g (cs ++ ds) ≡ grid_after (grid_after g cs) ds
+grid-joined g [] ds = refl
+grid-joined g (c ∷ cs) ds = grid-joined c.left.grid cs ds
 
 pub calls-joined : {s : Session} {lent : Lent} {cs ds : List Call} → Calls s lent cs
-    → Calls (session_after s cs) (lent_after_all lent cs) ds → Calls s lent (cs ++ ds)
+    → Calls (session_after s cs) (lend (grid_after lent.grid cs)) ds → Calls s lent (cs ++ ds)
 calls-joined no_call k = k
 calls-joined (called p rest) k = called p (calls-joined rest k)
 
@@ -47,11 +46,11 @@ deliveries-joined (c ∷ cs) ds = ap (λ (l : List Delivery). c.sent ∷ l) (del
 
 -- ---- the calls behind a run
 
--- they keep the promise, and leave session, grid and spans so
+-- they keep the promise, and leave session and grid so
 pub record Behind (s : Session) (lent : Lent) (cs : List Call) (r : Running) : Type 0 where
   pub calls : Calls s lent cs
   pub session-is : session_after s cs ≡ r.session
-  pub lent_is : lent_after_all lent cs ≡ r.lent
+  pub grid-is : grid_after lent.grid cs ≡ r.lent.grid
 
 module _ (s : Session) (number : ℕ) (blocks : List ℕ) (lent : Lent) where
   abbrev at : ℕ → Running
@@ -68,15 +67,15 @@ module _ (s : Session) (number : ℕ) (blocks : List ℕ) (lent : Lent) where
       record {
         calls =
             calls-joined b.calls
-            (subst (λ (x : Session). Calls x (lent_after_all lent (cs n)) (c ∷ [])) (sym b.session-is)
-            (subst (λ (l : Lent). Calls (at n).session l (c ∷ [])) (sym b.lent_is)
-            (called (record { answers = refl; fills = refl; marks = refl }) no_call)));
+            (subst (λ (x : Session). Calls x (lend (grid_after lent.grid (cs n))) (c ∷ [])) (sym b.session-is)
+            (subst (λ (g : List ℤ). Calls (at n).session (lend g) (c ∷ [])) (sym b.grid-is)
+            (called (record { answers = refl; fills = refl }) no_call)));
         session-is = after-joined s (cs n) (c ∷ []);
-        lent_is = lent-joined lent (cs n) (c ∷ []);
+        grid-is = grid-joined lent.grid (cs n) (c ∷ []);
       }
 
   pub behind : (n : ℕ) → Behind s lent (cs n) (at n)
-  behind zero = rw (run_none s number blocks lent) (record { calls = no_call; session-is = refl; lent_is = refl })
+  behind zero = rw (run_none s number blocks lent) (record { calls = no_call; session-is = refl; grid-is = refl })
   behind (suc n) =
       by-test (is_refused (at n).answer)
       (λ e.
@@ -101,24 +100,19 @@ module _ (s : Session) (number : ℕ) (blocks : List ℕ) (lent : Lent) where
 
 -- ---- whatever arrives
 
--- what a run leaves, by its promise
-pub run-left : {s : Session} {lent : Lent} {c : RunCall} → RunPromised s lent c → c.left ≡ (run_of s c.number c.blocks lent).lent
-run-left p = λ i. lend (p.fills i) (p.marks i)
-
 -- the run's calls, by its promise
 run-behind : {s : Session} {lent : Lent} {c : RunCall} → RunPromised s lent c
-    → Calls s lent (run_calls s lent c) × ((session_after s (run_calls s lent c) ≡ c.returned.session) × (lent_after_all lent (run_calls s lent c) ≡ c.left))
+    → Calls s lent (run_calls s lent c) × ((session_after s (run_calls s lent c) ≡ c.returned.session) × (grid_after lent.grid (run_calls s lent c) ≡ c.left.grid))
 run-behind {s} {lent} {c} p =
     let session : c.returned.session ≡ (run_of s c.number c.blocks lent).session = ap (λ (r : Ran). r.session) p.answers in
-    let left : c.left ≡ (run_of s c.number c.blocks lent).lent = run-left p in
     by-test (eqb (length c.blocks % 1024) 0)
     (λ e.
     let b = behind s c.number c.blocks lent (blocks_in c.blocks) in
-    rw e (b.calls, (b.session-is ∙ sym (rw e at session), b.lent_is ∙ sym (rw e at left))))
-    (λ e. rw e (no_call, (sym (rw e at session), sym (rw e at left))))
+    rw e (b.calls, (b.session-is ∙ sym (rw e at session), b.grid-is ∙ sym (rw e at p.fills))))
+    (λ e. rw e (no_call, (sym (rw e at session), sym (rw e at p.fills))))
 
 pub singles-behind : {s : Session} {lent : Lent} {xs : List Arrival} → Arrivals s lent xs
-    → Calls s lent (singles s lent xs) × ((session_after s (singles s lent xs) ≡ session_last s xs) × (lent_after_all lent (singles s lent xs) ≡ lent_last lent xs))
+    → Calls s lent (singles s lent xs) × ((session_after s (singles s lent xs) ≡ session_last s xs) × (grid_after lent.grid (singles s lent xs) ≡ grid_last lent.grid xs))
 singles-behind none_yet = (no_call, (refl, refl))
 singles-behind (one_more p rest) = let k = singles-behind rest in (called p k.0, k.1)
 singles-behind (run_more {s} {lent} {c} {xs} p rest) =
@@ -126,11 +120,11 @@ singles-behind (run_more {s} {lent} {c} {xs} p rest) =
     let b = run-behind p in
     let more = singles c.returned.session c.left xs in (
       calls-joined b.0
-          (subst (λ (x : Session). Calls x (lent_after_all lent (run_calls s lent c)) more) (sym b.1.0)
-          (subst (λ (l : Lent). Calls c.returned.session l more) (sym b.1.1) k.0)),
+          (subst (λ (x : Session). Calls x (lend (grid_after lent.grid (run_calls s lent c))) more) (sym b.1.0)
+          (subst (λ (g : List ℤ). Calls c.returned.session (lend g) more) (sym b.1.1) k.0)),
       (
         after-joined s (run_calls s lent c) more ∙ ap (λ (x : Session). session_after x more) b.1.0 ∙ k.1.0,
-        lent-joined lent (run_calls s lent c) more ∙ ap (λ (l : Lent). lent_after_all l more) b.1.1 ∙ k.1.1,
+        grid-joined lent.grid (run_calls s lent c) more ∙ ap (λ (g : List ℤ). grid_after g more) b.1.1 ∙ k.1.1,
       ),
     )
 
@@ -153,5 +147,5 @@ arrivals_for s lent (run number blocks ∷ gs) =
 
 pub arrivals-kept : (s : Session) (lent : Lent) (gs : List Given) → Arrivals s lent (arrivals_for s lent gs)
 arrivals-kept s lent [] = none_yet
-arrivals-kept s lent (block d ∷ gs) = one_more (record { answers = refl; fills = refl; marks = refl }) (arrivals-kept _ _ gs)
-arrivals-kept s lent (run number blocks ∷ gs) = run_more (record { answers = refl; fills = refl; marks = refl }) (arrivals-kept _ _ gs)
+arrivals-kept s lent (block d ∷ gs) = one_more (record { answers = refl; fills = refl }) (arrivals-kept _ _ gs)
+arrivals-kept s lent (run number blocks ∷ gs) = run_more (record { answers = refl; fills = refl }) (arrivals-kept _ _ gs)

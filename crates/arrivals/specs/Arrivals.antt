@@ -1,10 +1,9 @@
 -- Document 02, request 3, and demand 3: what arrives, single blocks and runs mixed, and the single deliveries that it comes to.
-use Rattle.std.specs.Prelude.{cond, List, [], ◌∷◌, ◌++◌, ◌≡◌, ℕ, zero, suc, ◌+◌, ◌%◌, eqb, length}
+use Rattle.std.specs.Prelude.{cond, List, [], ◌∷◌, ◌++◌, ◌≡◌, ℕ, zero, suc, ◌+◌, ◌%◌, eqb, ℤ, length}
 use Rattle.ground.specs.Blocks.{block_at, blocks_in}
 use Rattle.session.specs.declared.Session.{Session}
 use Rattle.session.specs.Session.{opened}
-use Rattle.lent.specs.Lent.{Lent}
-use Rattle.delivery.specs.Deliver.{deliver_of, lent_after}
+use Rattle.delivery.specs.Deliver.{Lent, lend, deliver_of, lent_after}
 use Rattle.runs.specs.declared.Ran.{Ran}
 use Rattle.runs.specs.Run.{Running, is_refused, run_to, run_of, ran_of}
 use Rattle.meaning.specs.Deliveries.{Delivery, Call, Promised}
@@ -22,7 +21,6 @@ pub record RunCall : Type 0 where
 pub record RunPromised (s : Session) (lent : Lent) (c : RunCall) : Type 0 where
   pub answers : c.returned ≡ ran_of (run_of s c.number c.blocks lent)
   pub fills : c.left.grid ≡ (run_of s c.number c.blocks lent).lent.grid
-  pub marks : c.left.spans ≡ (run_of s c.number c.blocks lent).lent.spans
 
 pub data Arrival : Type 0 where
   single : Call → Arrival
@@ -36,20 +34,20 @@ pub data Arrivals : Session → Lent → List Arrival → Type 0 where
   run_more : {s : Session} {lent : Lent} {c : RunCall} {xs : List Arrival} → RunPromised s lent c
       → Arrivals c.returned.session c.left xs → Arrivals s lent (several c ∷ xs)
 
--- a fresh session of a family, and grid and spans as they are lent
-abbrev pub FreshArrivals : ℕ → Lent → List Arrival → Type 0
-FreshArrivals family lent xs = Arrivals (opened family) lent xs
+-- a fresh session of a family, and a grid as it is lent
+abbrev pub FreshArrivals : ℕ → List ℤ → List Arrival → Type 0
+FreshArrivals family grid xs = Arrivals (opened family) (lend grid) xs
 
--- the session as last returned, and grid and spans as last left
+-- the session as last returned, and the grid as last left
 abbrev pub session_last : Session → List Arrival → Session
 session_last s [] = s
 session_last s (single c ∷ xs) = session_last c.returned.session xs
 session_last s (several c ∷ xs) = session_last c.returned.session xs
 
-abbrev pub lent_last : Lent → List Arrival → Lent
-lent_last lent [] = lent
-lent_last lent (single c ∷ xs) = lent_last c.left xs
-lent_last lent (several c ∷ xs) = lent_last c.left xs
+abbrev pub grid_last : List ℤ → List Arrival → List ℤ
+grid_last grid [] = grid
+grid_last grid (single c ∷ xs) = grid_last c.left.grid xs
+grid_last grid (several c ∷ xs) = grid_last c.left.grid xs
 
 -- ---- the single deliveries behind a run: each of its blocks under its own number, up to the first refusal
 

@@ -59,7 +59,7 @@ fn count_blocks(columns: usize, rows: usize, grid: &[i32]) -> u64
     let mut c = 0;
     while c < columns {
         let column = column_at(rows, grid, c);
-        next += ground::blocks_for(column.posts as u64);
+        next += columns::blocks_for(column.posts);
         c += 1;
     }
     next
@@ -86,7 +86,7 @@ fn search(columns: usize, rows: usize, grid: &[i32], number: u64) -> Found
     let mut c = 0;
     while c < columns {
         let column = column_at(rows, grid, c);
-        let next = start + ground::blocks_for(column.posts as u64);
+        let next = start + columns::blocks_for(column.posts);
         if number < next {
             return Found {
                 column: c,

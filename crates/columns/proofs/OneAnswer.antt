@@ -1,5 +1,6 @@
 -- No second answer: for each public function its contract, as it stands, leaves one result and one state of what was lent.
 use Rattle.laws.proofs.Answers.{one_answer, OneResult}
+use Rattle.columns.proofs.blocks_for.Reads as blocks-for·told
 use Rattle.columns.proofs.can_send.Reads as can-send·told
 use Rattle.columns.proofs.count_sendable.Reads as count-sendable·told
 use Rattle.columns.proofs.extremes_of.Reads as extremes-of·told
@@ -21,6 +22,9 @@ post-of κs a z z' e e' p q = one_answer p q
 
 pub scan-column : OneResult scan-column·told.Learnt
 scan-column κs a z z' e e' p q = λ i. record { row = one_answer p.0 q.0 i; posts = one_answer p.1 q.1 i }
+
+pub blocks-for : OneResult blocks-for·told.Learnt
+blocks-for κs a z z' e e' p q = one_answer p q
 
 pub extremes-of : OneResult extremes-of·told.Learnt
 extremes-of κs a z z' e e' p q = λ i. record { least = one_answer p.0 q.0 i; greatest = one_answer p.1 q.1 i }

@@ -2,7 +2,7 @@
 pub mod judging;
 
 ghost use Rattle.std.specs.Prelude.{◌≡◌, ◌/◌, ◌%◌, length};
-ghost use Rattle.ground.specs.Posts.{void};
+ghost use Rattle.ground.specs.Posts.{void, blocks_for};
 ghost use Rattle.laws.specs.Sign.{same_z};
 ghost use Rattle.ground.specs.Extremes.{least_stated, greatest_stated};
 ghost use Rattle.written.specs.Cells.{can_send, sendable, post_of, voids_before, up_to_last, first_row, profile_cells};
@@ -144,6 +144,16 @@ pub fn scan_column(column: &[i32]) -> Column
         row,
         posts: end - row,
     }
+}
+
+// "up to 146" posts in a profile's first block, "up to 170" in each further one.
+pub fn blocks_for(posts: usize) -> u64
+    ensures { result ≡ blocks_for posts }
+{
+    if posts <= 146 {
+        return 1;
+    }
+    2 + ((posts - 147) / 170) as u64
 }
 
 // One cell before those looked at.

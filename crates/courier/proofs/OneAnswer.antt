@@ -11,8 +11,5 @@ deliver-run-session κs a z z' e e' p q = one_answer p.1.0 q.1.0
 pub deliver-run-grid : OneLeft deliver-run·told.Learnt (λ κs e. e.1.1.1.0.now)
 deliver-run-grid κs a z z' e e' p q = one_answer p.1.1.0 q.1.1.0
 
-pub deliver-run-spans : OneLeft deliver-run·told.Learnt (λ κs e. e.1.1.1.1.0.now)
-deliver-run-spans κs a z z' e e' p q = one_answer p.1.1.1.0 q.1.1.1.0
-
-pub deliver-run-answer : OneLeft deliver-run·told.Learnt (λ κs e. e.1.1.1.1.1.0.now)
-deliver-run-answer κs a z z' e e' p q = one_answer p.1.1.1.1 q.1.1.1.1
+pub deliver-run-answer : OneLeft deliver-run·told.Learnt (λ κs e. e.1.1.1.1.0.now)
+deliver-run-answer κs a z z' e e' p q = one_answer p.1.1.1 q.1.1.1

@@ -1,10 +1,9 @@
 // A run of blocks to a session kept as numbers by a caller in C: document 02, request 3.
 ghost use Rattle.std.specs.Prelude.{◌≡◌};
-ghost use Rattle.lent.specs.Lent.{lend};
 ghost use Rattle.delivery.specs.Deliver.{answer_kind};
 ghost use Rattle.slip.specs.Slip.{handed};
 ghost use Rattle.courier.specs.Steps.{taken_kept};
-ghost use Rattle.courier.specs.Courier.{ran_to, numbers_run, lent_run, beside_run};
+ghost use Rattle.courier.specs.Courier.{ran_to, numbers_run, grid_run, beside_run};
 
 use delivery::Answer;
 use runs::Ran;
@@ -49,13 +48,12 @@ pub fn deliver_run(
     number: u32,
     blocks: &[u8],
     grid: &mut [i32],
-    spans: &mut [u16],
     answer: &mut [u64],
 ) -> u32
-    ensures { (result ≡ answer_kind (ran_to numbers.old number blocks.now (lend grid.old spans.old)).answer) × ((numbers.new ≡ numbers_run numbers.old number blocks.now (lend grid.old spans.old)) × ((grid.new ≡ (lent_run numbers.old number blocks.now (lend grid.old spans.old)).grid) × ((spans.new ≡ (lent_run numbers.old number blocks.now (lend grid.old spans.old)).spans) × (answer.new ≡ handed (beside_run (ran_to numbers.old number blocks.now (lend grid.old spans.old)).answer (ran_to numbers.old number blocks.now (lend grid.old spans.old)).count) answer.old)))) }
+    ensures { (result ≡ answer_kind (ran_to numbers.old number blocks.now grid.old).answer) × ((numbers.new ≡ numbers_run numbers.old number blocks.now grid.old) × ((grid.new ≡ grid_run numbers.old number blocks.now grid.old) × (answer.new ≡ handed (beside_run (ran_to numbers.old number blocks.now grid.old).answer (ran_to numbers.old number blocks.now grid.old).count) answer.old))) }
 {
     let s = ledger::session_of(numbers);
-    let ran = load::deliver_run(s, number as u64, blocks, grid, spans);
+    let ran = load::deliver_run(s, number as u64, blocks, grid);
     keep_taken(s.taken, ran.session, numbers);
     tell(ran, answer)
 }

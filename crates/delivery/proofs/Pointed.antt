@@ -35,10 +35,7 @@ use Rattle.session.specs.declared.Profile.{Profile}
 use Rattle.session.specs.Session.{sound, busy, complete, open_blocks}
 use Rattle.delivery.specs.declared.Answer.TheVariants.{Refused}
 use Rattle.delivery.specs.declared.Refusal.{Refusal}
-use Rattle.lent.specs.Lent.{Lent, Room, room_of, too_short}
-use Rattle.lent.specs.declared.Span.{Span}
-use Rattle.lent.specs.declared.Span.TheVariants.{Stays}
-use Rattle.delivery.specs.Deliver.{span_of, Verdict, again, wrong, begins, fills, unless, refusal, stated, close_fault, filled_session, closed_session, next_cell, heights_here, posts_here, filling, further, column_fits, column_place, row_fits, row_place, first_column, opened, opening, finished_session, later, beginning, verdict_of, answer_of, deliver_of}
+use Rattle.delivery.specs.Deliver.{Lent, Room, room_of, too_short, Verdict, again, wrong, begins, fills, unless, refusal, stated, close_fault, filled_session, closed_session, next_cell, heights_here, posts_here, filling, further, column_fits, column_place, row_fits, row_place, first_column, opened, opening, finished_session, later, beginning, verdict_of, answer_of, deliver_of}
 use Rattle.delivery.specs.RulesDue.{rules_first, rules_later, rules_due}
 
 -- a profile closes, or is refused for another reason than a form
@@ -70,8 +67,8 @@ module _ (number : ℕ) (block : List ℕ) (cs : List Clause) where
   right-again : Right again
   right-again n y q = let z : ◌≡◌ {A = ℕ} 0 1 = cc in absurd (omega arith)
 
-  right-fills : (after : Session) (at : ℕ) (hs : List ℤ) (span : Span) → Right (fills after at hs span)
-  right-fills after at hs span n y q = let z : ◌≡◌ {A = ℕ} 0 1 = cc in absurd (omega arith)
+  right-fills : (after : Session) (at : ℕ) (hs : List ℤ) → Right (fills after at hs)
+  right-fills after at hs n y q = let z : ◌≡◌ {A = ℕ} 0 1 = cc in absurd (omega arith)
 
   right-fault : (kind y : ℕ) → (kind ≡ 6 → Pointed block cs y) → Right (wrong kind number y)
   right-fault kind y p n z q =
@@ -83,12 +80,12 @@ module _ (number : ℕ) (block : List ℕ) (cs : List Clause) where
   right-unless : (f : Fault) (v : Verdict) → (f.kind ≡ 6 → Pointed block cs f.byte) → Right v → Right (unless f number v)
   right-unless f v p r = either Right (eqb f.kind 0) r (right-fault f.kind f.byte p)
 
-  right-filling : (s : Session) (column : ℕ) (p : Profile) (span : Span) (hs : List ℤ) → Right (filling s number column p span hs)
-  right-filling s column p span hs =
+  right-filling : (s : Session) (column : ℕ) (p : Profile) (hs : List ℤ) → Right (filling s number column p hs)
+  right-filling s column p hs =
       let after = filled_session s column p hs in
       let r = close_fault (number - open_blocks s) after in
-      either Right (ltb (p.read + length hs) p.posts) (right-fills after (next_cell s column p) hs span)
-      (either Right (eqb r.kind 0) (right-fills (closed_session after) (next_cell s column p) hs span)
+      either Right (ltb (p.read + length hs) p.posts) (right-fills after (next_cell s column p) hs)
+      (either Right (eqb r.kind 0) (right-fills (closed_session after) (next_cell s column p) hs)
       (λ n y q. let k : r.kind ≡ 6 = cc in absurd ((closing-other (number - open_blocks s) after).other k)))
 
   right-beginning : (room : Room) (c : Checked) → number ≡ 0 → ((y : ℕ) → c ≡ NoSheet 6 y → Pointed block cs y) → Right (beginning room c)
@@ -111,7 +108,7 @@ module _ (s : Session) (number : ℕ) (block : List ℕ) (l : length block ≡ 1
   right-further =
       let n = posts_here s.profile 170 in
       right-unless number block (rules_block 1 n) (posts_rest_fault 1 n block) _ (block-pointed block l n 1 (omega arith))
-      (right-filling number block (rules_block 1 n) s s.column s.profile Stays (heights_here s s.profile 1 n block))
+      (right-filling number block (rules_block 1 n) s s.column s.profile (heights_here s s.profile 1 n block))
 
   abbrev first-rules : List Clause
   first-rules = rules_first s.family (s.closed + 1) block
@@ -131,7 +128,7 @@ module _ (s : Session) (number : ℕ) (block : List ℕ) (l : length block ≡ 1
       (pointed-behind kept.0 (block-pointed block l n 145 (omega arith) k)))
       (either (Right number block first-rules) (column_fits s (column_place s h))
       (either (Right number block first-rules) (row_fits s h.posts (row_place s h))
-      (right-filling number block first-rules s (first_column s h) (opened s h) (span_of s (first_column s h) (opened s h)) (heights_here s (opened s h) 145 n block))
+      (right-filling number block first-rules s (first_column s h) (opened s h) (heights_here s (opened s h) 145 n block))
       (right-wrong number block first-rules 10 number 49 refl))
       (right-wrong number block first-rules 10 number 25 refl))
 
@@ -139,7 +136,7 @@ module _ (s : Session) (number : ℕ) (block : List ℕ) (l : length block ≡ 1
   right-later =
       as-tested number block (busy s) (λ b. right-further)
       (as-tested number block (ltb s.closed s.header.profiles) (λ b. right-opening (record_b s.family (s.closed + 1) block) refl)
-      (right-unless number block rules_c (record_c block) _ (record-c-pointed block) (right-fills number block rules_c (finished_session s) 0 [] Stays)))
+      (right-unless number block rules_c (record_c block) _ (record-c-pointed block) (right-fills number block rules_c (finished_session s) 0 [])))
 
 -- what the block of a number comes to where it is the next one
 abbrev due_verdict : Session → List ℕ → Room → ℕ → Verdict
@@ -188,4 +185,4 @@ wrong-form-told s number block lent n y e = right-verdict s number block (room_o
     told again e = let z : ◌≡◌ {A = ℕ} 0 1 = cc in absurd (omega arith)
     told (wrong kind b byte) e = cc
     told (begins h) e = let z : ◌≡◌ {A = ℕ} 0 1 = cc in absurd (omega arith)
-    told (fills after at hs span) e = let z : ◌≡◌ {A = ℕ} 0 1 = cc in absurd (omega arith)
+    told (fills after at hs) e = let z : ◌≡◌ {A = ℕ} 0 1 = cc in absurd (omega arith)

@@ -38,10 +38,7 @@ use Rattle.ground.proofs.Tallies.{InOrder, Fair, tally-filled, filled_within}
 use Rattle.ground.proofs.Weights.{sum_bound}
 use Rattle.ground.proofs.Heights.{Cell, heights-length, heights-cells}
 use Rattle.ground.proofs.PostsRead.{posts-length, posts-in-range, scan-fair}
-use Rattle.lent.specs.Lent.{Lent, Room, room_of, too_short}
-use Rattle.lent.specs.declared.Span.{Span}
-use Rattle.lent.specs.declared.Span.TheVariants.{Stays}
-use Rattle.delivery.specs.Deliver.{span_of, finished_session, profile_tally, sheet_tally, closed_session, filled_session, heights_here, posts_here, column_fits, column_place, first_column, opened, row_fits, row_place, Verdict, again, wrong, begins, fills, answer_of, beginning, close_fault, filling, further, later, opening, verdict_of, deliver_of}
+use Rattle.delivery.specs.Deliver.{Lent, Room, room_of, too_short, finished_session, profile_tally, sheet_tally, closed_session, filled_session, heights_here, posts_here, column_fits, column_place, first_column, opened, row_fits, row_place, Verdict, again, wrong, begins, fills, answer_of, beginning, close_fault, filling, further, later, opening, verdict_of, deliver_of}
 use Rattle.delivery.specs.declared.Answer.TheVariants.{Refused}
 use Rattle.delivery.proofs.Placed.{row_room, column-room}
 
@@ -328,7 +325,7 @@ abbrev pub Cells : Verdict → Type 0
 Cells again = Unit {0}
 Cells (wrong kind block byte) = Unit {0}
 Cells (begins h) = Unit {0}
-Cells (fills after at hs span) = (i : ℕ) → i < length hs → Cell (get_or hs i void)
+Cells (fills after at hs) = (i : ℕ) → i < length hs → Cell (get_or hs i void)
 
 -- the numbers of which no clause speaks until a profile has begun: such as a caller can keep in 64 bits with a sign
 pub record Idle (s : Session) : Type 0 where
@@ -370,8 +367,8 @@ module _ (s : Session) (t : sound s ≡ true) where
   kept : (kind block byte : ℕ) → Fine s (wrong kind block byte)
   kept kind block byte = record { is = t; cells = tt; idle = λ k. k }
 
-  filling-fine : (number column : ℕ) (p : Profile) (span : Span) (hs : List ℤ) → Grows s column p hs → Fine s (filling s number column p span hs)
-  filling-fine number column p span hs g =
+  filling-fine : (number column : ℕ) (p : Profile) (hs : List ℤ) → Grows s column p hs → Fine s (filling s number column p hs)
+  filling-fine number column p hs g =
       pick (ltb (p.read + length hs) p.posts)
       (λ e.
       record {
@@ -406,7 +403,7 @@ module _ (s : Session) (t : sound s ≡ true) where
         let n = posts_here p 170 in
         pick (eqb (posts_rest_fault 1 n block).kind 0)
         (λ z.
-        filling-fine number s.column p Stays (heights_here s p 1 n block)
+        filling-fine number s.column p (heights_here s p 1 n block)
         (further-grows s block (sound-known s t) facts b (eqb-true (posts_rest_fault 1 n block).kind 0 z)))
         (λ z. kept _ _ _)
 
@@ -423,7 +420,7 @@ module _ (s : Session) (t : sound s ≡ true) where
             (λ c.
             pick (row_fits s h.posts (row_place s h))
             (λ r.
-            filling-fine number (first_column s h) (opened s h) (span_of s (first_column s h) (opened s h)) (heights_here s (opened s h) 145 n block)
+            filling-fine number (first_column s h) (opened s h) (heights_here s (opened s h) 145 n block)
             (opening-grows s block h t due idle below e (eqb-true (posts_rest_fault 145 n block).kind 0 z) c r))
             (λ r. kept 10 number 49))
             (λ c. kept 10 number 25))

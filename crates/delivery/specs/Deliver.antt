@@ -1,4 +1,4 @@
--- Document 01, "What a delivery answers": what one delivery answers, for every session, of either family, number, block and whatever is lent.
+-- Document 01, "What a delivery answers": what one delivery answers, for every session, of either family, number, block and grid.
 use Rattle.std.specs.Prelude.{List, [], ◌∷◌, ◌++◌, ℕ, ◌^◌, ◌+◌, ◌-◌, min, ◌*◌, ℤ, pos, ◌+ℤ◌, ◌*ℤ◌, cond, Bool, false, not, eqb, ltb, leb, length, drop, replicate}
 use Rattle.std.proofs.lemmas.List.Edits.{sets}
 use Rattle.laws.specs.Sign.{same_z}
@@ -16,9 +16,6 @@ use Rattle.profile.specs.declared.record_b.Headed.{Headed}
 use Rattle.profile.specs.declared.record_b.Headed.TheVariants.{Profile as Headed-as-Profile, Refused as NoProfile}
 use Rattle.profile.specs.RecordB.{record_b}
 use Rattle.profile.specs.RecordC.{record_c}
-use Rattle.lent.specs.Lent.{Lent, Room, lend, room_of, too_short, blank_columns, with_span}
-use Rattle.lent.specs.declared.Span.{Span}
-use Rattle.lent.specs.declared.Span.TheVariants.{Stays, Opens}
 use Rattle.session.specs.declared.Session.{Session}
 use Rattle.session.specs.declared.Profile.{Profile}
 use Rattle.session.specs.Session.{no_profile, open_blocks, busy, sound, complete, begun}
@@ -30,15 +27,33 @@ use Rattle.delivery.specs.declared.Answer.{Answer}
 use Rattle.delivery.specs.declared.Answer.TheVariants.{Taken, Held, Refused}
 use Rattle.delivery.specs.declared.Delivered.{Delivered}
 
+-- ---- what a delivery is lent: the slices, and how long each is
+
+pub record Lent : Type 0 where
+  pub grid : List ℤ
+
+pub record Room : Type 0 where
+  pub cells : ℕ
+
+abbrev pub lend : List ℤ → Lent
+lend grid = record { grid = grid }
+
+abbrev pub room_of : Lent → Room
+room_of lent = record { cells = length lent.grid }
+
+-- kind 12: the grid lent is too short
+abbrev pub too_short : Room → Header → Bool
+too_short room h = ltb room.cells (cells_of h)
+
 -- ---- verdicts
 
 -- what a delivery comes to: held; refused; a good block 0; or a good later block, with the session after it, the first cell
--- it fills and the heights of the cells from there, and what it says of the spans
+-- it fills and the heights of the cells from there
 pub data Verdict : Type 0 where
   again : Verdict
   wrong : ℕ → ℕ → ℕ → Verdict
   begins : Header → Verdict
-  fills : Session → ℕ → List ℤ → Span → Verdict
+  fills : Session → ℕ → List ℤ → Verdict
 
 -- a fault of this block, where there is one
 abbrev pub unless : Fault → ℕ → Verdict → Verdict
@@ -142,19 +157,19 @@ abbrev pub heights_here : Session → Profile → ℕ → ℕ → List ℕ → L
 heights_here s p byte n block = heights (z_of s.header) p.datum (posts_of n byte block)
 
 -- a good block of a profile: its cells are filled, and the profile closed where its last post is read
-abbrev pub filling : Session → ℕ → ℕ → Profile → Span → List ℤ → Verdict
-filling s number column p span hs =
+abbrev pub filling : Session → ℕ → ℕ → Profile → List ℤ → Verdict
+filling s number column p hs =
     cond (ltb (p.read + length hs) p.posts)
-    (fills (filled_session s column p hs) (next_cell s column p) hs span)
+    (fills (filled_session s column p hs) (next_cell s column p) hs)
     (close_verdict (close_fault (number - open_blocks s) (filled_session s column p hs))
-    (fills (closed_session (filled_session s column p hs)) (next_cell s column p) hs span))
+    (fills (closed_session (filled_session s column p hs)) (next_cell s column p) hs))
 
 -- "Each further block holds up to 170 posts from byte 1."
 abbrev pub further : Session → ℕ → List ℕ → Verdict
 further s number block =
     let p = s.profile in
     let n = posts_here p 170 in
-    unless (posts_rest_fault 1 n block) number (filling s number s.column p Stays (heights_here s p 1 n block))
+    unless (posts_rest_fault 1 n block) number (filling s number s.column p (heights_here s p 1 n block))
 
 -- "x is on the lattice": the first profile so that all n find room, every other one column east of the one before
 abbrev pub column_fits : Session → Place → Bool
@@ -198,10 +213,6 @@ opened_at h p =
 abbrev pub opened : Session → Head → Profile
 opened s h = opened_at h (row_place s h)
 
--- 02, request 7: "the first row and stated post count of each column from its profile's first block on"
-abbrev pub span_of : Session → ℕ → Profile → Span
-span_of s column p = Opens (column + s.closed) p.row p.posts
-
 -- "10 at 25", "10 at 49", after all fields, posts and blanks
 abbrev pub placed : Session → ℕ → Head → Verdict → Verdict
 placed s number h v =
@@ -213,7 +224,7 @@ opening_with s number block h =
     let p = opened s h in
     let n = min h.posts 146 in
     unless (posts_rest_fault 145 n block) number
-    (placed s number h (filling s number (first_column s h) p (span_of s (first_column s h) p) (heights_here s p 145 n block)))
+    (placed s number h (filling s number (first_column s h) p (heights_here s p 145 n block)))
 
 abbrev pub opening : Session → ℕ → List ℕ → Headed → Verdict
 opening s number block (NoProfile kind byte) = wrong kind number byte
@@ -244,7 +255,7 @@ abbrev pub later : Session → ℕ → List ℕ → Verdict
 later s number block =
     cond (busy s) (further s number block)
     (cond (ltb s.closed s.header.profiles) (opening s number block (record_b s.family (s.closed + 1) block))
-    (unless (record_c block) number (fills (finished_session s) 0 [] Stays)))
+    (unless (record_c block) number (fills (finished_session s) 0 [])))
 
 -- for block 0 kind 12 comes last
 abbrev pub beginning : Room → Checked → Verdict
@@ -268,7 +279,7 @@ abbrev pub answer_of : Session → Verdict → Delivered
 answer_of s again = record { answer = Held; session = s }
 answer_of s (wrong kind block byte) = record { answer = Refused kind block byte; session = s }
 answer_of s (begins h) = record { answer = Taken; session = begun s.family h }
-answer_of s (fills after at hs span) = record { answer = Taken; session = after }
+answer_of s (fills after at hs) = record { answer = Taken; session = after }
 
 -- the numbers of each case: 0 taken, 255 held, else document 01's kind; beside it block and byte, which are 0 where nothing is refused
 abbrev pub answer_kind : Answer → ℕ
@@ -281,12 +292,12 @@ answer_place Taken = 0 ∷ (0 ∷ [])
 answer_place Held = 0 ∷ (0 ∷ [])
 answer_place (Refused kind block byte) = block ∷ (byte ∷ [])
 
--- "Taking block 0 sets exactly those cells void", and the spans "blanked over the sheet's columns"
+-- "Taking block 0 sets exactly those cells void."
 abbrev pub lent_by : Lent → Verdict → Lent
 lent_by lent again = lent
 lent_by lent (wrong kind block byte) = lent
-lent_by lent (begins h) = lend (replicate (cells_of h) void ++ drop (cells_of h) lent.grid) (blank_columns (columns_of h) lent.spans)
-lent_by lent (fills after at hs span) = lend (sets lent.grid at hs) (with_span span lent.spans)
+lent_by lent (begins h) = lend (replicate (cells_of h) void ++ drop (cells_of h) lent.grid)
+lent_by lent (fills after at hs) = lend (sets lent.grid at hs)
 
 abbrev pub deliver_of : Session → ℕ → List ℕ → Lent → Delivered
 deliver_of s number block lent = answer_of s (verdict_of s number block (room_of lent))

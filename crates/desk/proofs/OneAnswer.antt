@@ -4,7 +4,6 @@ use Rattle.desk.proofs.dem_block_count.Reads as dem-block-count·told
 use Rattle.desk.proofs.dem_columns.Reads as dem-columns·told
 use Rattle.desk.proofs.dem_deliver.Reads as dem-deliver·told
 use Rattle.desk.proofs.dem_deliver_run.Reads as dem-deliver-run·told
-use Rattle.desk.proofs.dem_why.Reads as dem-why·told
 use Rattle.desk.proofs.dem_family_record_a_kind.Reads as dem-family-record-a-kind·told
 use Rattle.desk.proofs.dem_family_record_a_byte.Reads as dem-family-record-a-byte·told
 use Rattle.desk.proofs.dem_family_origin.Reads as dem-family-origin·told
@@ -82,11 +81,8 @@ dem-deliver-session κs a z z' e e' p q = one_answer p.1.0 q.1.0
 pub dem-deliver-grid : OneLeft dem-deliver·told.Learnt (λ κs e. e.1.1.1.0.now)
 dem-deliver-grid κs a z z' e e' p q = one_answer p.1.1.0 q.1.1.0
 
-pub dem-deliver-spans : OneLeft dem-deliver·told.Learnt (λ κs e. e.1.1.1.1.0.now)
-dem-deliver-spans κs a z z' e e' p q = one_answer p.1.1.1.0 q.1.1.1.0
-
-pub dem-deliver-answer : OneLeft dem-deliver·told.Learnt (λ κs e. e.1.1.1.1.1.0.now)
-dem-deliver-answer κs a z z' e e' p q = one_answer p.1.1.1.1 q.1.1.1.1
+pub dem-deliver-answer : OneLeft dem-deliver·told.Learnt (λ κs e. e.1.1.1.1.0.now)
+dem-deliver-answer κs a z z' e e' p q = one_answer p.1.1.1 q.1.1.1
 
 pub dem-deliver-run : OneResult dem-deliver-run·told.Learnt
 dem-deliver-run κs a z z' e e' p q = one_answer p.0 q.0
@@ -97,11 +93,8 @@ dem-deliver-run-session κs a z z' e e' p q = one_answer p.1.0 q.1.0
 pub dem-deliver-run-grid : OneLeft dem-deliver-run·told.Learnt (λ κs e. e.1.1.1.0.now)
 dem-deliver-run-grid κs a z z' e e' p q = one_answer p.1.1.0 q.1.1.0
 
-pub dem-deliver-run-spans : OneLeft dem-deliver-run·told.Learnt (λ κs e. e.1.1.1.1.0.now)
-dem-deliver-run-spans κs a z z' e e' p q = one_answer p.1.1.1.0 q.1.1.1.0
-
-pub dem-deliver-run-answer : OneLeft dem-deliver-run·told.Learnt (λ κs e. e.1.1.1.1.1.0.now)
-dem-deliver-run-answer κs a z z' e e' p q = one_answer p.1.1.1.1 q.1.1.1.1
+pub dem-deliver-run-answer : OneLeft dem-deliver-run·told.Learnt (λ κs e. e.1.1.1.1.0.now)
+dem-deliver-run-answer κs a z z' e e' p q = one_answer p.1.1.1 q.1.1.1
 
 pub dem-is-sound : OneResult dem-is-sound·told.Learnt
 dem-is-sound κs a z z' e e' p q = one_answer p q
@@ -147,9 +140,3 @@ dem-report κs a z z' e e' p q = one_answer p.0 q.0
 
 pub dem-report-out : OneLeft dem-report·told.Learnt (λ κs e. e.1.0.now)
 dem-report-out κs a z z' e e' p q = one_answer p.1 q.1
-
-pub dem-why : OneResult dem-why·told.Learnt
-dem-why κs a z z' e e' p q = one_answer p.0 q.0
-
-pub dem-why-answer : OneLeft dem-why·told.Learnt (λ κs e. e.1.1.1.1.0.now)
-dem-why-answer κs a z z' e e' p q = one_answer p.1 q.1

@@ -5,14 +5,11 @@ ghost use Rattle.number.specs.Real.{real};
 ghost use Rattle.label.specs.Label.{origin_of, family_origin, name_length};
 ghost use Rattle.sheet.specs.RecordA.{record_a, record_of, checked_kind, checked_byte};
 ghost use Rattle.session.specs.Session.{opened};
-ghost use Rattle.lent.specs.Lent.{lend};
 ghost use Rattle.delivery.specs.Deliver.{answer_kind, answer_place};
-ghost use Rattle.why.specs.Why.{reason_kind, reason_numbers};
-ghost use Rattle.inquiry.specs.Inquiry.{why_said};
 ghost use Rattle.lines.specs.Lines.{Given};
 ghost use Rattle.slip.specs.Slip.{handed};
-ghost use Rattle.ledger.specs.Ledger.{open_kind, opened_with, delivered_to, lent_left, numbers_left, sound_said, complete_said, report_said};
-ghost use Rattle.courier.specs.Courier.{ran_to, numbers_run, lent_run, beside_run};
+ghost use Rattle.ledger.specs.Ledger.{open_kind, opened_with, delivered_to, grid_left, numbers_left, sound_said, complete_said, report_said};
+ghost use Rattle.courier.specs.Courier.{ran_to, numbers_run, grid_run, beside_run};
 ghost use Rattle.written.specs.Sending.{block_objection, block_after, count_of, sent_by, sent_kind, sheet_sent_objection, sheet_after};
 ghost use Rattle.desk.specs.Calls.{one_if, columns_checked, rows_checked, sent_beside};
 
@@ -150,12 +147,11 @@ pub extern "C" fn dem_deliver(
     number: u32,
     block: &[u8],
     grid: &mut [i32],
-    spans: &mut [u16],
     answer: &mut [u64],
 ) -> u32
-    ensures { (result ≡ answer_kind (delivered_to session.old number block.now (lend grid.old spans.old)).answer) × ((session.new ≡ numbers_left session.old number block.now (lend grid.old spans.old)) × ((grid.new ≡ (lent_left session.old number block.now (lend grid.old spans.old)).grid) × ((spans.new ≡ (lent_left session.old number block.now (lend grid.old spans.old)).spans) × (answer.new ≡ handed (answer_place (delivered_to session.old number block.now (lend grid.old spans.old)).answer) answer.old)))) }
+    ensures { (result ≡ answer_kind (delivered_to session.old number block.now grid.old).answer) × ((session.new ≡ numbers_left session.old number block.now grid.old) × ((grid.new ≡ grid_left session.old number block.now grid.old) × (answer.new ≡ handed (answer_place (delivered_to session.old number block.now grid.old).answer) answer.old))) }
 {
-    ledger::deliver(session, number, block, grid, spans, answer)
+    ledger::deliver(session, number, block, grid, answer)
 }
 
 // Several blocks in one call: as single deliveries in order, up to the first refusal; beside block and byte how many were taken or held.
@@ -165,26 +161,11 @@ pub extern "C" fn dem_deliver_run(
     number: u32,
     blocks: &[u8],
     grid: &mut [i32],
-    spans: &mut [u16],
     answer: &mut [u64],
 ) -> u32
-    ensures { (result ≡ answer_kind (ran_to session.old number blocks.now (lend grid.old spans.old)).answer) × ((session.new ≡ numbers_run session.old number blocks.now (lend grid.old spans.old)) × ((grid.new ≡ (lent_run session.old number blocks.now (lend grid.old spans.old)).grid) × ((spans.new ≡ (lent_run session.old number blocks.now (lend grid.old spans.old)).spans) × (answer.new ≡ handed (beside_run (ran_to session.old number blocks.now (lend grid.old spans.old)).answer (ran_to session.old number blocks.now (lend grid.old spans.old)).count) answer.old)))) }
+    ensures { (result ≡ answer_kind (ran_to session.old number blocks.now grid.old).answer) × ((session.new ≡ numbers_run session.old number blocks.now grid.old) × ((grid.new ≡ grid_run session.old number blocks.now grid.old) × (answer.new ≡ handed (beside_run (ran_to session.old number blocks.now grid.old).answer (ran_to session.old number blocks.now grid.old).count) answer.old))) }
 {
-    courier::deliver_run(session, number, blocks, grid, spans, answer)
-}
-
-// Why a cell of a complete sheet is empty, or that it is not: 0 with reason, profile, post and block beside it; a refusal writes nothing.
-#[unsafe(no_mangle)]
-pub extern "C" fn dem_why(
-    session: &[i64],
-    grid: &[i32],
-    spans: &[u16],
-    cell: u64,
-    answer: &mut [u64],
-) -> u32
-    ensures { (result ≡ reason_kind (why_said session.now (lend grid.now spans.now) cell)) × (answer.new ≡ handed (reason_numbers (why_said session.now (lend grid.now spans.now) cell)) answer.old) }
-{
-    inquiry::why(session, grid, spans, cell, answer)
+    courier::deliver_run(session, number, blocks, grid, answer)
 }
 
 fn one_if(b: bool) -> u32

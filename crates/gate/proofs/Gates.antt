@@ -3,21 +3,21 @@ use mathlib.Core.List.{List}
 use Prim.Native.Nat.{ℕ, ◌≤◌}
 use mathlib.Core.Bool.{Bool, true, false, not, cond}
 use mathlib.Core.Path.{◌≡◌, refl, sym, ◌∙◌, ap}
-use lib.Dec.{eqb, ltb}
+use lib.Dec.{eqb, ltb, leb}
 use lib.ListN.{length}
 use native.Mathlib.Omega.{arith}
-use borrow.Author.Tests.{eqb-true, eqb-false, ltb-false}
+use borrow.Author.Tests.{eqb-true, eqb-false, ltb-false, lt-ltb, le-ltb, leb-true, leb-false}
+use Rattle.frame.specs.Frame.{cells_of}
 use Rattle.frame.specs.declared.Header.{Header}
 use Rattle.sheet.specs.RecordA.{record_of}
 use Rattle.sheet.specs.declared.Checked.{Checked}
 use Rattle.sheet.specs.declared.Checked.TheVariants.{Sheet, Refused as NoSheet}
 use Rattle.session.specs.declared.Session.{Session}
 use Rattle.session.specs.Session.{sound, complete}
-use Rattle.lent.specs.Lent.{Room, enough}
-use Rattle.delivery.specs.Deliver.{Verdict, again, wrong, begins, beginning, later, verdict_of}
+use Rattle.delivery.specs.Deliver.{Verdict, Room, again, wrong, begins, beginning, later, verdict_of}
 use Rattle.gate.specs.declared.verdict.Gate.{Gate}
 use Rattle.gate.specs.declared.verdict.Gate.TheVariants.{Stop, Again, Begin, Later}
-use Rattle.gate.specs.Gate.{gate_by, gate_of, judged_of}
+use Rattle.gate.specs.Gate.{room, gate_by, gate_of, judged_of}
 use Rattle.gate.specs.declared.verdict.Judged.{Judged}
 
 abbrev pub by_gate : Session → ℕ → List ℕ → Room → Gate → Verdict
@@ -26,23 +26,25 @@ by_gate s number block m Again = again
 by_gate s number block m Begin = beginning m (record_of s.family block)
 by_gate s number block m Later = later s number block
 
+-- room, or too little of it
+enough : (h : Header) (cells : ℕ) (t : Bool) → leb (cells_of h) cells ≡ t → ltb cells (cells_of h) ≡ not t
+enough h cells true e = le-ltb cells (cells_of h) (leb-true (cells_of h) cells e)
+enough h cells false e = lt-ltb cells (cells_of h) (leb-false (cells_of h) cells e)
+
 -- block 0, by what its record A says
-module _ (s : Session) (m : Room) (a : Checked) where
+module _ (s : Session) (cells : ℕ) (a : Checked) where
   abbrev first_of : Checked → Judged
-  first_of x = judged_of s (beginning m x)
+  first_of x = judged_of s (beginning (room cells) x)
 
   pub first-bad : (kind byte : ℕ) → a ≡ NoSheet kind byte → judged_of s (wrong kind 0 byte) ≡ first_of a
   first-bad kind byte e = sym (ap first_of e)
 
   module _ (h : Header) (e : a ≡ Sheet h) where
-    abbrev by_room : Bool → Judged
-    by_room t = judged_of s (cond (not t) (wrong 12 0 0) (begins h))
+    pub first_short : leb (cells_of h) cells ≡ false → judged_of s (wrong 12 0 0) ≡ first_of a
+    first_short t = sym (ap first_of e ∙ rw (enough h cells false t))
 
-    pub first_short : enough m h ≡ false → judged_of s (wrong 12 0 0) ≡ first_of a
-    first_short t = sym (ap first_of e ∙ ap by_room t)
-
-    pub first_good : enough m h ≡ true → judged_of s (begins h) ≡ first_of a
-    first_good t = sym (ap first_of e ∙ ap by_room t)
+    pub first_good : leb (cells_of h) cells ≡ true → judged_of s (begins h) ≡ first_of a
+    first_good t = sym (ap first_of e ∙ rw (enough h cells true t))
 
 by-answers : (s : Session) (number : ℕ) (block : List ℕ) (m : Room) (whole sound held ahead first complete roomy : Bool)
     → by_gate s number block m (gate_by whole sound held ahead first complete roomy)
@@ -65,21 +67,23 @@ gate-verdict : (s : Session) (number : ℕ) (block : List ℕ) (m : Room)
     → by_gate s number block m (gate_of s number (length block) m) ≡ verdict_of s number block m
 unfolding verdict_of
 gate-verdict s number block m =
-    by-answers s number block m (eqb (length block) 1024) (sound s) (ltb number s.taken) (ltb s.taken number) (eqb number 0) (complete s)
-    (enough m s.header)
+    let room = leb (cells_of s.header) m.cells in
+    rw (enough s.header m.cells room refl)
+    (by-answers s number block m (eqb (length block) 1024) (sound s) (ltb number s.taken) (ltb s.taken number) (eqb number 0) (complete s)
+    room)
 
 -- the verdict, by what the gate said
 pub gate-said : (s : Session) (number : ℕ) (block : List ℕ) (m : Room) {g : Gate} (x : Gate) → g ≡ gate_of s number (length block) m → g ≡ x
     → by_gate s number block m x ≡ verdict_of s number block m
 gate-said s number block m x e f = ap (by_gate s number block m) (sym f ∙ e) ∙ gate-verdict s number block m
 
--- past all of them the delivery is the next one of a sound session, and what is lent is long enough
+-- past all of them the delivery is the next one of a sound session, and the grid is long enough
 pub record Due (s : Session) (number : ℕ) (block : List ℕ) (m : Room) : Type 0 where
   pub sound-is : sound s ≡ true
   pub begun : 1 ≤ s.taken
   pub taken_is : number ≡ s.taken
   pub long : length block ≡ 1024
-  pub enough-is : enough m s.header ≡ true
+  pub cells : cells_of s.header ≤ m.cells
 
 record Past (whole sound held ahead first roomy : Bool) : Type 0 where
   whole_is : whole ≡ true
@@ -106,9 +110,9 @@ past true true false false false false true z =
 
 pub gate-due : (s : Session) (number : ℕ) (block : List ℕ) (m : Room) → gate_of s number (length block) m ≡ Later → Due s number block m
 gate-due s number block m z =
+    let room = leb (cells_of s.header) m.cells in
     let p =
-    past (eqb (length block) 1024) (sound s) (ltb number s.taken) (ltb s.taken number) (eqb number 0) (complete s)
-    (enough m s.header) z
+    past (eqb (length block) 1024) (sound s) (ltb number s.taken) (ltb s.taken number) (eqb number 0) (complete s) room z
     in
     let n : number ≡ s.taken =
     omega (arith, ltb-false number s.taken p.held-is, ltb-false s.taken number p.ahead-is)
@@ -119,5 +123,5 @@ gate-due s number block m z =
       begun = omega (arith, o, n);
       taken_is = n;
       long = eqb-true (length block) 1024 p.whole_is;
-      enough-is = p.roomy-is;
+      cells = leb-true (cells_of s.header) m.cells p.roomy-is;
     }

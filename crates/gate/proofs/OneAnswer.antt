@@ -5,7 +5,6 @@ use Rattle.gate.proofs.judge_first.Reads as judge-first·told
 use Rattle.gate.proofs.order.Reads as order·told
 use Rattle.gate.proofs.verdict.held.Reads as held·told
 use Rattle.gate.proofs.verdict.refused.Reads as refused·told
-use Rattle.gate.proofs.verdict.started.Reads as started·told
 use Rattle.gate.proofs.verdict.taken.Reads as taken·told
 
 pub gate : OneResult gate·told.Learnt
@@ -22,9 +21,6 @@ held κs a z z' e e' p q = one_answer p q
 
 pub refused : OneResult refused·told.Learnt
 refused κs a z z' e e' p q = one_answer p q
-
-pub started : OneResult started·told.Learnt
-started κs a z z' e e' p q = one_answer p q
 
 pub taken : OneResult taken·told.Learnt
 taken κs a z z' e e' p q = one_answer p q

@@ -3,18 +3,17 @@ pub mod verdict;
 
 ghost use Rattle.std.specs.Prelude.{◌≡◌, ◌^◌, ◌<◌, ltb, eqb, true};
 ghost use Rattle.sheet.specs.RecordA.{record_of};
-ghost use Rattle.frame.specs.Frame.{cells_of, columns_of};
+ghost use Rattle.frame.specs.Frame.{cells_of};
 ghost use Rattle.session.specs.Session.{begun, complete};
 ghost use Rattle.delivery.specs.Deliver.{beginning};
-ghost use Rattle.lent.specs.Lent.{room};
-ghost use Rattle.gate.specs.Gate.{gate_by, gate_of, started, judged_of};
+ghost use Rattle.gate.specs.Gate.{room, gate_by, gate_of, taken, judged_of};
 
 use frame::Header;
 use session::Session;
 use sheet::Checked;
 use verdict::{Gate, Judged};
 
-// The tests behind length and soundness, in document 01's order. Whether grid and spans are enough for the session's sheet is asked by the
+// The tests behind length and soundness, in document 01's order. Whether the cells lent are enough for the session's sheet is asked by the
 // caller: it stays so from block to block.
 pub fn order(s: Session, number: u64, roomy: bool) -> Gate
     ensures { result ≡ gate_by true true (ltb number s.taken) (ltb s.taken number) (eqb number 0) (complete s) roomy }
@@ -38,8 +37,8 @@ pub fn order(s: Session, number: u64, roomy: bool) -> Gate
 }
 
 // The first tests, in document 01's order.
-pub fn gate(s: Session, number: u64, bytes: usize, cells: usize, numbers: usize) -> Gate
-    ensures { result ≡ gate_of s number bytes (room cells numbers) }
+pub fn gate(s: Session, number: u64, bytes: usize, cells: usize) -> Gate
+    ensures { result ≡ gate_of s number bytes (room cells) }
 {
     if bytes != 1024 {
         return Gate::Stop(1);
@@ -48,29 +47,28 @@ pub fn gate(s: Session, number: u64, bytes: usize, cells: usize, numbers: usize)
         return Gate::Stop(2);
     }
     let h = s.header;
-    let roomy = lent::has_room(h, cells as u64, numbers as u64);
+    let roomy = frame::has_room(h, cells as u64);
     order(s, number, roomy)
 }
 
-// A good block 0: its header, every cell of its sheet void, and the spans of its columns blank.
+// A good block 0: its header, and every cell of its sheet void.
 fn begin(family: u64, h: Header) -> Judged
     requires { cells_of h < 2 ^ 64 }
-    ensures { result ≡ started (begun family h) (cells_of h) (columns_of h) }
+    ensures { result ≡ taken (begun family h) (cells_of h) 0 0 }
 {
-    let columns = frame::columns(h);
-    let cells = columns * frame::rows(h);
-    verdict::started(session::begun(family, h), cells, columns)
+    let cells = frame::columns(h) * frame::rows(h);
+    verdict::taken(session::begun(family, h), cells, 0, 0)
 }
 
-// Block 0: its header, where grid and spans are enough.
-pub fn judge_first(s: Session, block: &[u8], cells: usize, numbers: usize) -> Judged
-    ensures { result ≡ judged_of s (beginning (room cells numbers) (record_of s.family block.now)) }
+// Block 0: its header, where the cells lent are enough.
+pub fn judge_first(s: Session, block: &[u8], cells: usize) -> Judged
+    ensures { result ≡ judged_of s (beginning (room cells) (record_of s.family block.now)) }
 {
     let checked = sheet::check_family(s.family, block);
     match checked {
         Checked::Refused(kind, byte) => verdict::refused(s, kind, 0, byte),
         Checked::Sheet(h) => {
-            if lent::has_room(h, cells as u64, numbers as u64) {
+            if frame::has_room(h, cells as u64) {
                 return begin(s.family, h);
             }
             verdict::refused(s, 12, 0, 0)

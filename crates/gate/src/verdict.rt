@@ -1,10 +1,9 @@
 // What the first tests leave, and what a delivery comes to as the code has it: nothing is written yet.
 ghost use Rattle.std.specs.Prelude.{◌≡◌};
-ghost use Rattle.gate.specs.Gate.{judged_of, started, taken};
+ghost use Rattle.gate.specs.Gate.{judged_of, taken};
 ghost use Rattle.delivery.specs.Deliver.{again, wrong};
 
 use delivery::Answer;
-use lent::Span;
 use session::Session;
 
 // A refusal, a held block, block 0, or a later block.
@@ -16,17 +15,15 @@ pub enum Gate {
     Later,
 }
 
-// The answer and the session after it; how many of the first cells become void, and how many columns of the spans blank; the first of
-// the cells that get a height, with how many do; and what is said of the spans.
+// The answer and the session after it; how many of the first cells become void; and the first of the cells that get a
+// height, with how many do.
 #[derive(Drop)]
 pub struct Judged {
     pub answer: Answer,
     pub session: Session,
     pub voids: u64,
-    pub blanks: u64,
     pub at: u64,
     pub heights: u64,
-    pub span: Span,
 }
 
 pub fn held(s: Session) -> Judged
@@ -36,10 +33,8 @@ pub fn held(s: Session) -> Judged
         answer: Answer::Held,
         session: s,
         voids: 0,
-        blanks: 0,
         at: 0,
         heights: 0,
-        span: Span::Stays,
     }
 }
 
@@ -50,39 +45,20 @@ pub fn refused(s: Session, kind: u32, block: u64, byte: u32) -> Judged
         answer: Answer::Refused(kind, block, byte),
         session: s,
         voids: 0,
-        blanks: 0,
         at: 0,
         heights: 0,
-        span: Span::Stays,
     }
 }
 
-// Block 0 taken: the session after it, cells void from the first on, and columns of the spans blank.
-pub fn started(after: Session, voids: u64, blanks: u64) -> Judged
-    ensures { result ≡ started after voids blanks }
+// A block taken: the session after it, cells void from the first on, and heights from a cell on.
+pub fn taken(after: Session, voids: u64, at: u64, heights: u64) -> Judged
+    ensures { result ≡ taken after voids at heights }
 {
     Judged {
         answer: Answer::Taken,
         session: after,
         voids,
-        blanks,
-        at: 0,
-        heights: 0,
-        span: Span::Stays,
-    }
-}
-
-// A later block taken: the session after it, heights from a cell on, and what it says of the spans.
-pub fn taken(after: Session, at: u64, heights: u64, span: Span) -> Judged
-    ensures { result ≡ taken after at heights span }
-{
-    Judged {
-        answer: Answer::Taken,
-        session: after,
-        voids: 0,
-        blanks: 0,
         at,
         heights,
-        span,
     }
 }

@@ -6,4 +6,3 @@ pub mod MergedTallies
 pub mod BlockCounts
 pub mod PostsRead
 pub mod PostRules
-pub mod OneAnswer

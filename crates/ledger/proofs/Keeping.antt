@@ -20,8 +20,7 @@ use Rattle.session.proofs.Sound.{fresh-or-begun, sound-known, taken-bound, posts
 use Rattle.delivery.specs.declared.Answer.{Answer}
 use Rattle.delivery.specs.declared.Answer.TheVariants.{Taken, Held, Refused}
 use Rattle.delivery.specs.declared.Delivered.{Delivered}
-use Rattle.lent.specs.Lent.{Lent}
-use Rattle.delivery.specs.Deliver.{deliver_of}
+use Rattle.delivery.specs.Deliver.{Lent, deliver_of}
 use Rattle.delivery.proofs.SoundOut.{Idle, sound-out, idle-out, unsound-kept}
 use Rattle.ledger.specs.Numbers.{numbers_of, session_numbers}
 use Rattle.ledger.specs.Ledger.{none_negative, run, is_session, session_kept, session_said, no_session}

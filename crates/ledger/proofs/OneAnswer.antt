@@ -29,11 +29,8 @@ deliver-session κs a z z' e e' p q = one_answer p.1.0 q.1.0
 pub deliver-grid : OneLeft deliver·told.Learnt (λ κs e. e.1.1.1.0.now)
 deliver-grid κs a z z' e e' p q = one_answer p.1.1.0 q.1.1.0
 
-pub deliver-spans : OneLeft deliver·told.Learnt (λ κs e. e.1.1.1.1.0.now)
-deliver-spans κs a z z' e e' p q = one_answer p.1.1.1.0 q.1.1.1.0
-
-pub deliver-answer : OneLeft deliver·told.Learnt (λ κs e. e.1.1.1.1.1.0.now)
-deliver-answer κs a z z' e e' p q = one_answer p.1.1.1.1 q.1.1.1.1
+pub deliver-answer : OneLeft deliver·told.Learnt (λ κs e. e.1.1.1.1.0.now)
+deliver-answer κs a z z' e e' p q = one_answer p.1.1.1 q.1.1.1
 
 pub is-sound : OneResult is-sound·told.Learnt
 is-sound κs a z z' e e' p q = one_answer p q

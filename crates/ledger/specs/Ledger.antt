@@ -12,8 +12,7 @@ use Rattle.session.specs.Session.{begun, sound, complete}
 use Rattle.delivery.specs.declared.Answer.{Answer}
 use Rattle.delivery.specs.declared.Answer.TheVariants.{Taken, Held, Refused}
 use Rattle.delivery.specs.declared.Delivered.{Delivered}
-use Rattle.lent.specs.Lent.{Lent}
-use Rattle.delivery.specs.Deliver.{deliver_of, lent_after}
+use Rattle.delivery.specs.Deliver.{lend, deliver_of, lent_after}
 use Rattle.lines.specs.Lines.{report_text}
 use Rattle.ledger.specs.Numbers.{kept, session_numbers}
 
@@ -116,12 +115,12 @@ complete_said numbers = sound_said numbers and complete (session_said numbers)
 -- ---- a delivery
 
 -- a delivery to the session that numbers say
-abbrev pub delivered_to : List ℤ → ℕ → List ℕ → Lent → Delivered
-delivered_to numbers number block lent = deliver_of (session_said numbers) number block lent
+abbrev pub delivered_to : List ℤ → ℕ → List ℕ → List ℤ → Delivered
+delivered_to numbers number block grid = deliver_of (session_said numbers) number block (lend grid)
 
--- and the grid and the spans that it leaves
-abbrev pub lent_left : List ℤ → ℕ → List ℕ → Lent → Lent
-lent_left numbers number block lent = lent_after (session_said numbers) number block lent
+-- and the grid it leaves
+abbrev pub grid_left : List ℤ → ℕ → List ℕ → List ℤ → List ℤ
+grid_left numbers number block grid = (lent_after (session_said numbers) number block (lend grid)).grid
 
 -- the numbers of the session after it, where the block was taken; else as they were
 abbrev pub numbers_after_answer : Answer → Session → List ℤ → List ℤ
@@ -129,9 +128,9 @@ numbers_after_answer Taken s numbers = kept s numbers
 numbers_after_answer Held s numbers = numbers
 numbers_after_answer (Refused kind block byte) s numbers = numbers
 
-abbrev pub numbers_left : List ℤ → ℕ → List ℕ → Lent → List ℤ
-numbers_left numbers number block lent =
-    numbers_after_answer (delivered_to numbers number block lent).answer (delivered_to numbers number block lent).session numbers
+abbrev pub numbers_left : List ℤ → ℕ → List ℕ → List ℤ → List ℤ
+numbers_left numbers number block grid =
+    numbers_after_answer (delivered_to numbers number block grid).answer (delivered_to numbers number block grid).session numbers
 
 -- ---- a fresh one, and the lister's lines
 

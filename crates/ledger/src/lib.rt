@@ -4,12 +4,11 @@ mod row;
 
 ghost use Rattle.std.specs.Prelude.{◌≡◌};
 ghost use Rattle.session.specs.Session.{opened};
-ghost use Rattle.lent.specs.Lent.{lend};
 ghost use Rattle.delivery.specs.Deliver.{answer_kind, answer_place};
 ghost use Rattle.delivery.proofs.SoundOut.{Idle};
 ghost use Rattle.lines.specs.Lines.{Given};
 ghost use Rattle.slip.specs.Slip.{handed};
-ghost use Rattle.ledger.specs.Ledger.{session_said, sound_said, complete_said, open_kind, opened_with, delivered_to, lent_left, numbers_left, numbers_after_answer, report_said};
+ghost use Rattle.ledger.specs.Ledger.{session_said, sound_said, complete_said, open_kind, opened_with, delivered_to, grid_left, numbers_left, numbers_after_answer, report_said};
 ghost use Rattle.ledger.specs.Row.{row_kept};
 ghost use Rattle.ledger.specs.Steps.{Keepable};
 
@@ -80,13 +79,12 @@ pub fn deliver(
     number: u32,
     block: &[u8],
     grid: &mut [i32],
-    spans: &mut [u16],
     answer: &mut [u64],
 ) -> u32
-    ensures { (result ≡ answer_kind (delivered_to numbers.old number block.now (lend grid.old spans.old)).answer) × ((numbers.new ≡ numbers_left numbers.old number block.now (lend grid.old spans.old)) × ((grid.new ≡ (lent_left numbers.old number block.now (lend grid.old spans.old)).grid) × ((spans.new ≡ (lent_left numbers.old number block.now (lend grid.old spans.old)).spans) × (answer.new ≡ handed (answer_place (delivered_to numbers.old number block.now (lend grid.old spans.old)).answer) answer.old)))) }
+    ensures { (result ≡ answer_kind (delivered_to numbers.old number block.now grid.old).answer) × ((numbers.new ≡ numbers_left numbers.old number block.now grid.old) × ((grid.new ≡ grid_left numbers.old number block.now grid.old) × (answer.new ≡ handed (answer_place (delivered_to numbers.old number block.now grid.old).answer) answer.old))) }
 {
     let s = session_of(numbers);
-    let d = load::deliver(s, number as u64, block, grid, spans);
+    let d = load::deliver(s, number as u64, block, grid);
     settle(d, numbers, answer)
 }
 

@@ -16,8 +16,7 @@ use Rattle.session.specs.Session.{fresh, sound}
 use Rattle.session.proofs.Sound.{fresh-sound, taken-bound}
 use Rattle.delivery.specs.declared.Answer.{Answer}
 use Rattle.delivery.specs.declared.Answer.TheVariants.{Taken, Held, Refused}
-use Rattle.lent.specs.Lent.{Lent, lend, room_of}
-use Rattle.delivery.specs.Deliver.{deliver_of}
+use Rattle.delivery.specs.Deliver.{Lent, lend, room_of, deliver_of}
 use Rattle.delivery.proofs.SoundOut.{sound-out}
 use Rattle.runs.specs.Run.{Running, is_refused, with_block, run_to}
 use Rattle.runs.proofs.Passed.{shown}

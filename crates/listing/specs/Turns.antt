@@ -5,8 +5,7 @@ use Rattle.session.specs.declared.Session.{Session}
 use Rattle.session.specs.Session.{fresh}
 use Rattle.delivery.specs.declared.Answer.{Answer}
 use Rattle.delivery.specs.declared.Answer.TheVariants.{Taken, Held, Refused}
-use Rattle.lent.specs.Lent.{lend}
-use Rattle.delivery.specs.Deliver.{deliver_of, lent_after}
+use Rattle.delivery.specs.Deliver.{lend, deliver_of, lent_after}
 use Rattle.runs.specs.Run.{Running, run_of}
 use Rattle.lines.specs.Lines.{refused_text, end_text}
 use Rattle.listing.specs.declared.Turn.{Turn}

@@ -1,4 +1,4 @@
--- A good block comes to the definition's verdict, and its cells are cells of the sheet, its numbers those of a column.
+-- A good block comes to the definition's verdict, and its cells are cells of the sheet.
 use mathlib.Core.List.{List}
 use mathlib.Core.Path.{◌≡◌, sym, ◌∙◌}
 use Prim.Native.Nat.{ℕ, ◌+◌, ◌-◌, ◌*◌, ◌≤◌, ◌<◌}
@@ -18,14 +18,12 @@ use Rattle.ground.specs.Posts.{no_tally, tally_all}
 use Rattle.ground.specs.Extremes.{filled_only, sum_of}
 use Rattle.ground.specs.declared.Tally.{Tally}
 use Rattle.ground.proofs.MergedTallies.{tally-merged}
-use Rattle.delivery.specs.Deliver.{span_of, filled_session, sheet_tally, profile_tally, closed_session, close_fault, close_verdict, fills, wrong, Verdict, filling, next_cell}
+use Rattle.delivery.specs.Deliver.{filled_session, sheet_tally, profile_tally, closed_session, close_fault, close_verdict, fills, wrong, Verdict, filling, next_cell}
 use Rattle.delivery.specs.declared.Refusal.{Refusal}
 use Rattle.gate.specs.Gate.{taken, judged_of}
 use Rattle.progress.specs.Progress.{countable, filled_with}
 use Rattle.progress.proofs.Counts.{is-countable}
-use Rattle.lent.specs.Lent.{Room, numbers_of}
-use Rattle.lent.specs.declared.Span.{Span}
-use Rattle.load.specs.Steps.{Filling, Lies, SpanLies, Placing}
+use Rattle.load.specs.Steps.{Filling, Lies, Placing}
 
 filled-same : (s : Session) (column : ℕ) (p : Profile) (hs : List ℤ)
     → filled_session s column p hs ≡ filled_with s column p (length hs) (tally_all no_tally hs) (sum_of (filled_only hs))
@@ -75,27 +73,27 @@ filled_on s column p n u sum k =
       more-sum = omega arith;
     }))
 
-module _ (s : Session) (number column : ℕ) (p : Profile) (span : Span) where
+module _ (s : Session) (number column : ℕ) (p : Profile) where
   -- the verdict, for any session that a block may leave
   abbrev filled_to : Session → List ℤ → Verdict
   filled_to after hs =
-      cond (ltb (p.read + length hs) p.posts) (fills after (next_cell s column p) hs span)
-      (close_verdict (close_fault (number - open_blocks s) after) (fills (closed_session after) (next_cell s column p) hs span))
+      cond (ltb (p.read + length hs) p.posts) (fills after (next_cell s column p) hs)
+      (close_verdict (close_fault (number - open_blocks s) after) (fills (closed_session after) (next_cell s column p) hs))
 
   module _ (n : ℕ) (u : Tally) (sum : ℤ) (hs : List ℤ) (e : n ≡ length hs) (f : u ≡ tally_all no_tally hs) (g : sum ≡ sum_of (filled_only hs)) where
     -- the session is the definition's
-    same : judged_of s (filled_to (filled_with s column p n u sum) hs) ≡ judged_of s (filling s number column p span hs)
+    same : judged_of s (filled_to (filled_with s column p n u sum) hs) ≡ judged_of s (filling s number column p hs)
     same = λ j. judged_of s (filled_to (((λ i. filled_with s column p (e i) (f i) (g i)) ∙ sym (filled-same s column p hs)) j) hs)
 
-    counted : (after : Session) → taken after (next_cell s column p) n span ≡ taken after (next_cell s column p) (length hs) span
-    counted after = λ j. taken after (next_cell s column p) (e j) span
+    counted : (after : Session) → taken after 0 (next_cell s column p) n ≡ taken after 0 (next_cell s column p) (length hs)
+    counted after = λ j. taken after 0 (next_cell s column p) (e j)
 
     -- a good block: more posts to come, or its profile closes, or breaks a closing rule
     pub fill_more : p.read + n < p.posts
-        → taken (filled_with s column p n u sum) (next_cell s column p) n span ≡ judged_of s (filling s number column p span hs)
+        → taken (filled_with s column p n u sum) 0 (next_cell s column p) n ≡ judged_of s (filling s number column p hs)
     fill_more h = counted (filled_with s column p n u sum) ∙ go (filled_with s column p n u sum) ∙ same
       where
-        go : (after : Session) → taken after (next_cell s column p) (length hs) span ≡ judged_of s (filled_to after hs)
+        go : (after : Session) → taken after 0 (next_cell s column p) (length hs) ≡ judged_of s (filled_to after hs)
         go after = sym (rw (lt-ltb (p.read + length hs) p.posts (omega (arith, h, e))))
 
     module _ (h : p.posts ≤ p.read + n) (r : Refusal) (is : r ≡ close_fault (number - open_blocks s) (filled_with s column p n u sum)) where
@@ -103,37 +101,31 @@ module _ (s : Session) (number column : ℕ) (p : Profile) (span : Span) where
       last = le-ltb (p.read + length hs) p.posts (omega (arith, h, e))
 
       pub fill-last : r.kind ≡ 0
-          → taken (closed_session (filled_with s column p n u sum)) (next_cell s column p) n span ≡ judged_of s (filling s number column p span hs)
+          → taken (closed_session (filled_with s column p n u sum)) 0 (next_cell s column p) n ≡ judged_of s (filling s number column p hs)
       fill-last z = counted (closed_session (filled_with s column p n u sum)) ∙ go (filled_with s column p n u sum) is ∙ same
         where
           go : (after : Session) → r ≡ close_fault (number - open_blocks s) after
-              → taken (closed_session after) (next_cell s column p) (length hs) span ≡ judged_of s (filled_to after hs)
+              → taken (closed_session after) 0 (next_cell s column p) (length hs) ≡ judged_of s (filled_to after hs)
           go after x = sym (rw (last, ← x, eq-eqb r.kind 0 z))
 
-      pub fill-broken : (r.kind ≡ 0 → ⊥) → judged_of s (wrong r.kind r.block r.byte) ≡ judged_of s (filling s number column p span hs)
+      pub fill-broken : (r.kind ≡ 0 → ⊥) → judged_of s (wrong r.kind r.block r.byte) ≡ judged_of s (filling s number column p hs)
       fill-broken z = go (filled_with s column p n u sum) is ∙ same
         where
           go : (after : Session) → r ≡ close_fault (number - open_blocks s) after
               → judged_of s (wrong r.kind r.block r.byte) ≡ judged_of s (filled_to after hs)
           go after x = sym (rw (last, ← x, ne_eqb r.kind 0 z))
 
-  pub filling-lies : (hs : List ℤ) (room : Room) (scratch : List ℤ)
-      → (next_cell s column p + length hs ≤ room.cells) × ((take (length hs) scratch ≡ hs) × SpanLies room.numbers span)
-      → Lies room scratch (filling s number column p span hs)
-  filling-lies hs room scratch k = go (filled_session s column p hs)
+  pub filling-lies : (hs : List ℤ) (cells : ℕ) (scratch : List ℤ)
+      → (next_cell s column p + length hs ≤ cells) × (take (length hs) scratch ≡ hs) → Lies cells scratch (filling s number column p hs)
+  filling-lies hs cells scratch k = go (filled_session s column p hs)
     where
-      go : (after : Session) → Lies room scratch (filled_to after hs)
+      go : (after : Session) → Lies cells scratch (filled_to after hs)
       go after =
           by-test (ltb (p.read + length hs) p.posts) (λ e. rw e k)
           (λ e. by-test (eqb (close_fault (number - open_blocks s) after).kind 0) (λ f. rw (e, f) k) (λ f. rw (e, f) tt))
 
--- a profile that may stand there has its cells in the sheet, and its column's two numbers in the spans
-module _ (s : Session) (number column : ℕ) (p : Profile) (g : Placing s number column p) where
-  pub cell_room : (n : ℕ) → p.read + n ≤ p.posts → next_cell s column p + n ≤ cells_of s.header
-  cell_room n h =
+  pub cell_room : Placing s number column p → (n : ℕ) → p.read + n ≤ p.posts → next_cell s column p + n ≤ cells_of s.header
+  cell_room g n h =
       let a : column + s.closed + 1 ≤ columns_of s.header = omega (arith, g.column-room, g.not_last) in
       let b : (column + s.closed + 1) * rows_of s.header ≤ columns_of s.header * rows_of s.header = mul-le-mul_right (rows_of s.header) a in
       omega (arith, add-mul (column + s.closed) 1 (rows_of s.header), g.row_room)
-
-  pub span-room : rows_of s.header ≤ 2048 → SpanLies (numbers_of s.header) (span_of s column p)
-  span-room h = (omega (arith, g.column-room, g.not_last), (omega (arith, g.row_room), omega (arith, g.row_room)))

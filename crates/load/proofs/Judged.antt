@@ -6,12 +6,11 @@ use native.Mathlib.Omega.{arith}
 use lib.IntN.{ℤ, nat_abs}
 use lib.ListN.{length, take, length-take}
 use mathlib.Core.Bool.{true, false, Bool, cond, not}
-use borrow.Author.Tests.{eq-eqb, ne_eqb, lt-ltb, le-ltb, le-leb, leb-true}
-use lib.Dec.{eqb, ltb, leb}
-use Rattle.laws.proofs.Tests.{by-test, and_both, split}
+use borrow.Author.Tests.{eq-eqb, ne_eqb, lt-ltb, le-ltb, ltb-false, le-leb}
+use lib.Dec.{eqb, ltb}
+use Rattle.laws.proofs.Tests.{by-test, and_both}
 use Rattle.field.specs.Field.{fault}
 use Rattle.field.specs.declared.Fault.{Fault}
-use Rattle.frame.specs.declared.Header.{Header}
 use Rattle.frame.specs.Frame.{z_of, cells_of}
 use Rattle.profile.specs.RecordB.{record_b}
 use Rattle.profile.specs.declared.record_b.Head.{Head}
@@ -28,47 +27,28 @@ use Rattle.ground.proofs.Heights.{heights-length}
 use Rattle.posts.specs.Steps.{BlockScanned}
 use Rattle.posts.specs.Scan.{summed}
 use Rattle.posts.specs.declared.Scan.{Scan}
-use Rattle.lent.specs.Lent.{Room, enough, numbers_of}
-use Rattle.lent.specs.declared.Span.{Span}
-use Rattle.lent.specs.declared.Span.TheVariants.{Stays, Opens}
-use Rattle.delivery.specs.Deliver.{span_of, Verdict, again, wrong, begins, beginning, unless, filling, heights_here, fills, finished_session, further, opening, later, posts_here, opening_with, placed, first_column, opened}
+use Rattle.delivery.specs.Deliver.{Verdict, Room, too_short, again, wrong, begins, beginning, unless, filling, heights_here, fills, finished_session, further, opening, later, posts_here, opening_with, placed, first_column, opened}
 use Rattle.gate.specs.Gate.{judged_of}
 use Rattle.gate.specs.declared.verdict.Judged.{Judged}
-use Rattle.load.specs.Steps.{sheet_room, Judging, Lies, SpanLies, ByTally, Ready, Filling, Placing}
+use Rattle.load.specs.Steps.{Judging, Lies, ByTally, Ready, Filling, Placing}
 use Rattle.load.proofs.Filled.{filling-lies, cell_room}
 
 -- a block judged for one verdict is judged for the same verdict in another form
-pub same-judging : {s : Session} {v w : Verdict} {room : Room} {scratch : List ℤ} {j : Judged} → v ≡ w → Judging s v room scratch j
-    → Judging s w room scratch j
-same-judging {s} {v} {w} {room} {scratch} e k =
-    record { judged-is = k.judged-is ∙ ap (judged_of s) e; lies = subst (Lies room scratch) e k.lies }
+pub same-judging : {s : Session} {v w : Verdict} {cells : ℕ} {scratch : List ℤ} {j : Judged} → v ≡ w → Judging s v cells scratch j
+    → Judging s w cells scratch j
+same-judging {s} {v} {w} {cells} {scratch} e k =
+    record { judged-is = k.judged-is ∙ ap (judged_of s) e; lies = subst (Lies cells scratch) e k.lies }
 
--- what is enough for a sheet has its cells, and its columns' numbers
-room-there : (m : Room) (h : Header) → enough m h ≡ true → (cells_of h ≤ m.cells) × (numbers_of h ≤ m.numbers)
-room-there m h e =
-    let w = split (leb (cells_of h) m.cells) (leb (numbers_of h) m.numbers) e in
-    (leb-true (cells_of h) m.cells w.0, leb-true (numbers_of h) m.numbers w.1)
+-- what has room in few cells has it in more
+pub lies_more : (v : Verdict) (few cells : ℕ) (scratch : List ℤ) → few ≤ cells → Lies few scratch v → Lies cells scratch v
+lies_more again few cells scratch h k = tt
+lies_more (wrong kind block byte) few cells scratch h k = tt
+lies_more (begins head) few cells scratch h k = omega arith
+lies_more (fills after at hs) few cells scratch h k = (omega (arith, h, k.0), k.1)
 
--- what has the room that a sheet needs has it in any that is enough for the sheet
-span_more : (span : Span) (few numbers : ℕ) → few ≤ numbers → SpanLies few span → SpanLies numbers span
-span_more Stays few numbers h k = tt
-span_more (Opens column row posts) few numbers h k = (omega (arith, h, k.0), k.1)
-
-pub lies_more : (v : Verdict) (h : Header) (m : Room) (scratch : List ℤ) → enough m h ≡ true → Lies (sheet_room h) scratch v → Lies m scratch v
-lies_more v h m scratch e = go v
-  where
-    r : (cells_of h ≤ m.cells) × (numbers_of h ≤ m.numbers)
-    r = room-there m h e
-
-    go : (v : Verdict) → Lies (sheet_room h) scratch v → Lies m scratch v
-    go again k = tt
-    go (wrong kind block byte) k = tt
-    go (begins head) k = (omega (arith, r.0, k.0), omega (arith, r.1, k.1))
-    go (fills after at hs span) k = (omega (arith, r.0, k.0), (k.1.0, span_more span (numbers_of h) m.numbers r.1 k.1.1))
-
-pub first-lies : (m : Room) (a : Checked) (scratch : List ℤ) → Lies m scratch (beginning m a)
+pub first-lies : (m : Room) (a : Checked) (scratch : List ℤ) → Lies m.cells scratch (beginning m a)
 first-lies m (NoSheet kind byte) scratch = tt
-first-lies m (Sheet h) scratch = by-test (enough m h) (λ e. rw e (room-there m h e)) (λ e. rw e tt)
+first-lies m (Sheet h) scratch = by-test (too_short m h) (λ e. rw e tt) (λ e. rw e (ltb-false m.cells (cells_of h) e))
 
 module _ (f : Fault) (number : ℕ) (v : Verdict) (kind byte : ℕ) (is : fault kind byte ≡ f) where
   pub fault-refused : (kind ≡ 0 → ⊥) → wrong kind number byte ≡ unless f number v
@@ -88,7 +68,7 @@ module _ (s : Session) (number : ℕ) (block : List ℕ) (n kind byte : ℕ) whe
     further-refused h = rw (← e) (fault-refused (posts_rest_fault 1 n block) number _ kind byte is h)
 
     pub further-fine : kind ≡ 0
-        → filling s number s.column s.profile Stays (heights_here s s.profile 1 n block) ≡ further s number block
+        → filling s number s.column s.profile (heights_here s s.profile 1 n block) ≡ further s number block
     further-fine h = rw (← e) (fault-none (posts_rest_fault 1 n block) number _ kind byte is h)
 
   module _ (head : Head) (e : n ≡ min head.posts 146) (is : fault kind byte ≡ posts_rest_fault 145 n block) where
@@ -96,7 +76,7 @@ module _ (s : Session) (number : ℕ) (block : List ℕ) (n kind byte : ℕ) whe
     opening-refused h = rw (← e) (fault-refused (posts_rest_fault 145 n block) number _ kind byte is h)
 
     pub opening-fine : kind ≡ 0
-        → placed s number head (filling s number (first_column s head) (opened s head) (span_of s (first_column s head) (opened s head)) (heights_here s (opened s head) 145 n block))
+        → placed s number head (filling s number (first_column s head) (opened s head) (heights_here s (opened s head) 145 n block))
         ≡ opening_with s number block head
     opening-fine h = rw (← e) (fault-none (posts_rest_fault 145 n block) number _ kind byte is h)
 
@@ -142,12 +122,12 @@ module _ (s : Session) (p : Profile) (byte n : ℕ) (block : List ℕ) (before a
       → j ≡ judged_of s (v (heights_here s p byte n block))
   by-heights v j t b = b (heights_here s p byte n block) counted (sc.tally-is e) (t ∙ scanned-sum)
 
-  pub filled-lies : (number column : ℕ) (span : Span) → Placing s number column p → SpanLies (numbers_of s.header) span
-      → Lies (sheet_room s.header) after (filling s number column p span (heights_here s p byte n block))
-  filled-lies number column span g q =
-      filling-lies s number column p span (heights_here s p byte n block) (sheet_room s.header) after (
+  pub filled-lies : (number column : ℕ) → Placing s number column p
+      → Lies (cells_of s.header) after (filling s number column p (heights_here s p byte n block))
+  filled-lies number column g =
+      filling-lies s number column p (heights_here s p byte n block) (cells_of s.header) after (
         omega (arith, counted, cell_room s number column p g n k.read-most),
-        (ap (λ (m : ℕ). take m after) (sym counted) ∙ sc.heights-are e, q),
+        ap (λ (m : ℕ). take m after) (sym counted) ∙ sc.heights-are e,
       )
 
 -- which of a later block's three ways is gone
@@ -172,11 +152,11 @@ module _ (s : Session) (number : ℕ) (block : List ℕ) where
         ∙ pick_second (busy s) (further s number block) _ idle-is
 
     pub later-ends : s.header.profiles ≤ s.closed
-        → unless (record_c block) number (fills (finished_session s) 0 [] Stays) ≡ later s number block
+        → unless (record_c block) number (fills (finished_session s) 0 []) ≡ later s number block
     later-ends h =
         pick_second (ltb s.closed s.header.profiles) (opening s number block (record_b s.family (s.closed + 1) block)) _ (le-ltb s.closed s.header.profiles h)
         ∙ pick_second (busy s) (further s number block) _ idle-is
 
-pub finish-lies : (s : Session) (number : ℕ) (block : List ℕ) (room : Room) (scratch : List ℤ)
-    → Lies room scratch (unless (record_c block) number (fills (finished_session s) 0 [] Stays))
-finish-lies s number block room scratch = by-test (eqb (record_c block).kind 0) (λ e. rw e (omega arith, (refl, tt))) (λ e. rw e tt)
+pub finish-lies : (s : Session) (number : ℕ) (block : List ℕ) (cells : ℕ) (scratch : List ℤ)
+    → Lies cells scratch (unless (record_c block) number (fills (finished_session s) 0 []))
+finish-lies s number block cells scratch = by-test (eqb (record_c block).kind 0) (λ e. rw e (omega arith, refl)) (λ e. rw e tt)

@@ -7,16 +7,10 @@ pub deliver : OneResult deliver·told.Learnt
 deliver κs a z z' e e' p q = one_answer p.0 q.0
 
 pub deliver-grid : OneLeft deliver·told.Learnt (λ κs e. e.1.1.1.0.now)
-deliver-grid κs a z z' e e' p q = one_answer p.1.0 q.1.0
-
-pub deliver-spans : OneLeft deliver·told.Learnt (λ κs e. e.1.1.1.1.0.now)
-deliver-spans κs a z z' e e' p q = one_answer p.1.1 q.1.1
+deliver-grid κs a z z' e e' p q = one_answer p.1 q.1
 
 pub deliver-run : OneResult deliver-run·told.Learnt
 deliver-run κs a z z' e e' p q = one_answer p.0 q.0
 
 pub deliver-run-grid : OneLeft deliver-run·told.Learnt (λ κs e. e.1.1.1.0.now)
-deliver-run-grid κs a z z' e e' p q = one_answer p.1.0 q.1.0
-
-pub deliver-run-spans : OneLeft deliver-run·told.Learnt (λ κs e. e.1.1.1.1.0.now)
-deliver-run-spans κs a z z' e e' p q = one_answer p.1.1 q.1.1
+deliver-run-grid κs a z z' e e' p q = one_answer p.1 q.1

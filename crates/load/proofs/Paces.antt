@@ -1,24 +1,25 @@
--- A run, block by block: what the first tests ask of session and what is lent holds again after each block that is not refused.
+-- A run, block by block: what the first tests ask of session and grid holds again after each block that is not refused.
 use mathlib.Core.Bool.{Bool, true, false}
 use mathlib.Core.List.{List}
 use mathlib.Core.Path.{◌≡◌, refl, sym, ◌∙◌, ap}
 use Prim.Native.Nat.{ℕ, ◌≤◌, ◌+◌, ◌-◌, ◌*◌}
 use native.Mathlib.Omega.{arith}
 use borrow.Author.Tests.{eq-eqb}
-use lib.Dec.{eqb, ltb}
+use lib.Dec.{eqb, ltb, leb}
+use lib.IntN.{ℤ}
 use lib.ListN.{length, take, drop}
 use Rattle.ground.specs.Blocks.{block_at}
 use Rattle.laws.proofs.Tests.{clash}
+use Rattle.frame.specs.Frame.{cells_of}
 use Rattle.session.specs.declared.Session.{Session}
 use Rattle.session.specs.Session.{sound, complete}
 use Rattle.session.proofs.Sound.{taken-bound}
 use Rattle.delivery.specs.declared.Answer.{Answer}
 use Rattle.delivery.specs.declared.Answer.TheVariants.{Taken, Held, Refused}
 use Rattle.delivery.specs.declared.Delivered.{Delivered}
-use Rattle.lent.specs.Lent.{Lent, Room, lend, room_of, enough}
-use Rattle.delivery.specs.Deliver.{Verdict, verdict_of, answer_of, deliver_of, lent_after}
+use Rattle.delivery.specs.Deliver.{Lent, lend, room_of, Verdict, verdict_of, answer_of, deliver_of, lent_after}
 use Rattle.delivery.proofs.SoundOut.{sound-out}
-use Rattle.gate.specs.Gate.{gate_by, gate_of}
+use Rattle.gate.specs.Gate.{room, gate_by, gate_of}
 use Rattle.runs.specs.Run.{Running, running, is_refused, counted, with_block, go_on, run_to, run_of, ran_of}
 use Rattle.runs.specs.declared.Ran.{Ran}
 use Rattle.runs.proofs.RunLaws.{goes_on, run-next, run-stays, count_most}
@@ -27,61 +28,59 @@ use Rattle.load.specs.declared.run.Pace.{Pace}
 use Rattle.load.specs.Steps.{Pacing, standing, paced_by}
 
 -- the tests that a run does not ask again
-pub order-gate : (s : Session) (number : ℕ) (block : List ℕ) (m : Room) (roomy : Bool) → sound s ≡ true → length block ≡ 1024
-    → enough m s.header ≡ roomy
-    → gate_by true true (ltb number s.taken) (ltb s.taken number) (eqb number 0) (complete s) roomy ≡ gate_of s number (length block) m
-order-gate s number block m roomy t l r =
-    sym (λ j. gate_by (eq-eqb (length block) 1024 l j) (t j) (ltb number s.taken) (ltb s.taken number) (eqb number 0) (complete s) (r j))
+pub order-gate : (s : Session) (number : ℕ) (block : List ℕ) (cells : ℕ) (roomy : Bool) → sound s ≡ true → length block ≡ 1024
+    → leb (cells_of s.header) cells ≡ roomy
+    → gate_by true true (ltb number s.taken) (ltb s.taken number) (eqb number 0) (complete s) roomy ≡ gate_of s number (length block) (room cells)
+order-gate s number block cells roomy t l r = rw (eq-eqb (length block) 1024 l, t, r)
 
 -- what is known after a block
-pub record Paced (s : Session) (number count : ℕ) (block : List ℕ) (lent after : Lent) (r : Pace) : Type 0 where
-  pub pacing : Pacing (room_of lent) r
-  pub stands : standing r.ran after ≡ running (deliver_of s number block lent).answer (deliver_of s number block lent).session (lent_after s number block lent) (counted (deliver_of s number block lent).answer count)
+pub record Paced (s : Session) (number count : ℕ) (block : List ℕ) (grid after : List ℤ) (r : Pace) : Type 0 where
+  pub pacing : Pacing (length grid) r
+  pub stands : standing r.ran after ≡ running (deliver_of s number block (lend grid)).answer (deliver_of s number block (lend grid)).session (lent_after s number block (lend grid)) (counted (deliver_of s number block (lend grid)).answer count)
   pub number-most : r.more ≡ true → number ≤ 26626
 
-module _ (s : Session) (number count : ℕ) (block : List ℕ) (lent after : Lent) (roomy : Bool) (t : sound s ≡ true)
-    (r : enough (room_of lent) s.header ≡ roomy)
-    (left : (after.grid ≡ (lent_after s number block lent).grid) × (after.spans ≡ (lent_after s number block lent).spans)) where
+module _ (s : Session) (number count : ℕ) (block : List ℕ) (grid after : List ℤ) (roomy : Bool) (t : sound s ≡ true)
+    (r : leb (cells_of s.header) (length grid) ≡ roomy) (left : after ≡ (lent_after s number block (lend grid)).grid) where
   abbrev v : Verdict
-  v = verdict_of s number block (room_of lent)
+  v = verdict_of s number block (room_of (lend grid))
 
   abbrev d : Delivered
   d = answer_of s v
 
-  shows : Shows s number (room_of lent) v
-  shows = shown s number (room_of lent) block
+  shows : Shows s number (room_of (lend grid)) v
+  shows = shown s number (room_of (lend grid)) block
 
   number-few : is_refused d.answer ≡ false → number ≤ 26626
   number-few e = omega (arith, shows.number_is e, taken-bound s t)
 
-  still-room : is_taken d.answer ≡ false → enough (room_of lent) d.session.header ≡ roomy
-  still-room e = ap (λ (x : Session). enough (room_of lent) x.header) (unmoved s v e) ∙ r
+  still-room : is_taken d.answer ≡ false → leb (cells_of d.session.header) (length grid) ≡ roomy
+  still-room e = ap (λ (x : Session). leb (cells_of x.header) (length grid)) (unmoved s v e) ∙ r
 
   abbrev stood : (a : Answer) → d.answer ≡ a
-      → running a d.session after (counted a count) ≡ running d.answer d.session (lent_after s number block lent) (counted d.answer count)
-  stood a e = λ j. running (sym e j) d.session (lend (left.0 j) (left.1 j)) (counted (sym e j) count)
+      → running a d.session (lend after) (counted a count) ≡ running d.answer d.session (lent_after s number block (lend grid)) (counted d.answer count)
+  stood a e = λ j. running (sym e j) d.session (lend (left j)) (counted (sym e j) count)
 
-  by_answer : (a : Answer) → d.answer ≡ a → Paced s number count block lent after (paced_by roomy count d.session a)
+  by_answer : (a : Answer) → d.answer ≡ a → Paced s number count block grid after (paced_by roomy count d.session a)
   by_answer Taken e =
       record {
-        pacing = record { sound-is = sound-out s number block lent t; room-is = shows.room-is (ap is_taken e); more-is = refl };
+        pacing = record { sound-is = sound-out s number block (lend grid) t; room-is = shows.room-is (ap is_taken e); more-is = refl };
         stands = stood Taken e;
         number-most = λ m. number-few (ap is_refused e);
       }
   by_answer Held e =
       record {
-        pacing = record { sound-is = sound-out s number block lent t; room-is = still-room (ap is_taken e); more-is = refl };
+        pacing = record { sound-is = sound-out s number block (lend grid) t; room-is = still-room (ap is_taken e); more-is = refl };
         stands = stood Held e;
         number-most = λ m. number-few (ap is_refused e);
       }
   by_answer (Refused kind at byte) e =
       record {
-        pacing = record { sound-is = sound-out s number block lent t; room-is = still-room (ap is_taken e); more-is = refl };
+        pacing = record { sound-is = sound-out s number block (lend grid) t; room-is = still-room (ap is_taken e); more-is = refl };
         stands = stood (Refused kind at byte) e;
         number-most = λ m. clash (sym m);
       }
 
-  pub paced-next : Paced s number count block lent after (paced_by roomy count d.session d.answer)
+  pub paced-next : Paced s number count block grid after (paced_by roomy count d.session d.answer)
   paced-next = by_answer d.answer refl
 
 -- ---- the loop over a run's blocks
@@ -112,13 +111,10 @@ module _ (s : Session) (number : ℕ) (blocks : List ℕ) (lent : Lent) (r : Run
 
 -- ---- the call
 
-module _ (s : Session) (number : ℕ) (blocks : List ℕ) (lent : Lent) where
+module _ (s : Session) (number : ℕ) (blocks : List ℕ) (grid : List ℤ) where
   abbrev ran : Running
-  ran = run_of s number blocks lent
+  ran = run_of s number blocks (lend grid)
 
   -- what is returned and left, by where the run stands
-  pub as-run : {x : Running} {r : Ran} {after : Lent} → x ≡ ran → r ≡ ran_of x → after ≡ x.lent
-      → (r ≡ ran_of ran) × ((after.grid ≡ ran.lent.grid) × (after.spans ≡ ran.lent.spans))
-  as-run e p q =
-      let l = q ∙ ap (λ (y : Running). y.lent) e in
-      (p ∙ ap ran_of e, (ap (λ (y : Lent). y.grid) l, ap (λ (y : Lent). y.spans) l))
+  pub as-run : {x : Running} {r : Ran} {after : List ℤ} → x ≡ ran → r ≡ ran_of x → after ≡ x.lent.grid → (r ≡ ran_of ran) × (after ≡ ran.lent.grid)
+  as-run e p q = (p ∙ ap ran_of e, q ∙ ap (λ (y : Running). y.lent.grid) e)

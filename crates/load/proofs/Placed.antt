@@ -10,7 +10,6 @@ use Rattle.profile.specs.declared.record_b.Head.{Head}
 use Rattle.session.specs.Session.{busy, open_blocks}
 use Rattle.session.specs.declared.Session.{Session}
 use Rattle.ground.specs.declared.Tally.{Tally}
-use Rattle.lent.specs.Lent.{Room}
 use Rattle.delivery.specs.Deliver.{Verdict, wrong, column_fits, column_place, row_fits, row_place, first_column, opened, placed}
 use Rattle.delivery.proofs.Placed.{row_room, column-room}
 use Rattle.load.specs.Steps.{Filling, Placing, Placeable, Lies}
@@ -33,13 +32,13 @@ module _ (s : Session) (number : ℕ) (h : Head) (v : Verdict) where
   pub place-good : column_fits s (column_place s h) ≡ true → row_fits s h.posts (row_place s h) ≡ true → v ≡ placed s number h v
   place-good p q = λ j. place_by (sym p j) (sym q j)
 
-  pub placed-lies : (room : Room) (scratch : List ℤ)
-      → (column_fits s (column_place s h) ≡ true → row_fits s h.posts (row_place s h) ≡ true → Lies room scratch v)
-      → Lies room scratch (placed s number h v)
-  placed-lies room scratch k =
+  pub placed-lies : (cells : ℕ) (scratch : List ℤ)
+      → (column_fits s (column_place s h) ≡ true → row_fits s h.posts (row_place s h) ≡ true → Lies cells scratch v)
+      → Lies cells scratch (placed s number h v)
+  placed-lies cells scratch k =
       by-test (column_fits s (column_place s h))
-      (λ p. by-test (row_fits s h.posts (row_place s h)) (λ q. subst (Lies room scratch) (place-good p q) (k p q)) (λ q. subst (Lies room scratch) (place-row p q) tt))
-      (λ p. subst (Lies room scratch) (place-column p) tt)
+      (λ p. by-test (row_fits s h.posts (row_place s h)) (λ q. subst (Lies cells scratch) (place-good p q) (k p q)) (λ q. subst (Lies cells scratch) (place-row p q) tt))
+      (λ p. subst (Lies cells scratch) (place-column p) tt)
 
 module _ (s : Session) (number : ℕ) (h : Head) (n : ℕ) (u : Tally) (sum : ℤ) (k : Placeable s number h n u sum) where
   pub opened-filling : Filling s (opened s h) n u sum

@@ -1,6 +1,5 @@
 -- How the code takes a delivery apart: contracts of private functions. The public promise cites `deliver_of` and `lent_after` alone.
-use Rattle.std.specs.Prelude.{List, ◌≡◌, Bool, true, false, not, ℕ, ◌+◌, ◌*◌, ◌^◌, ◌≤◌, ◌<◌, ℤ, nat_abs, take, length}
-use Rattle.frame.specs.declared.Header.{Header}
+use Rattle.std.specs.Prelude.{List, ◌≡◌, Bool, true, false, not, leb, ℕ, ◌+◌, ◌*◌, ◌^◌, ◌≤◌, ◌<◌, ℤ, nat_abs, take, length}
 use Rattle.frame.specs.Frame.{cells_of, columns_of, rows_of, z_of}
 use Rattle.profile.specs.declared.record_b.Head.{Head}
 use Rattle.session.specs.declared.Session.{Session}
@@ -12,11 +11,7 @@ use Rattle.ground.specs.Extremes.{filled_only, sum_of}
 use Rattle.posts.specs.Scan.{voided, placed}
 use Rattle.delivery.specs.declared.Answer.{Answer}
 use Rattle.delivery.specs.declared.Answer.TheVariants.{Taken, Held, Refused}
-use Rattle.lent.specs.Lent.{Lent, Room, room, enough, numbers_of}
-use Rattle.lent.specs.Writes.{blanked, span_put}
-use Rattle.lent.specs.declared.Span.{Span}
-use Rattle.lent.specs.declared.Span.TheVariants.{Stays, Opens}
-use Rattle.delivery.specs.Deliver.{Verdict, again, wrong, begins, fills}
+use Rattle.delivery.specs.Deliver.{lend, Verdict, again, wrong, begins, fills}
 use Rattle.delivery.specs.declared.Delivered.{Delivered}
 use Rattle.gate.specs.Gate.{judged_of}
 use Rattle.gate.specs.declared.verdict.Judged.{Judged}
@@ -112,28 +107,16 @@ told j = record { answer = j.answer; session = j.session }
 abbrev pub grid_by : List ℤ → Judged → List ℤ → List ℤ
 grid_by scratch j grid = placed j.at j.heights scratch (voided j.voids grid)
 
-abbrev pub spans_by : Judged → List ℕ → List ℕ
-spans_by j spans = span_put j.span (blanked j.blanks spans)
+-- what a verdict writes is there: its cells in a grid of so many, and its heights at the front of the scratch
+abbrev pub Lies : ℕ → List ℤ → Verdict → Type 0
+Lies cells scratch again = Unit {0}
+Lies cells scratch (wrong kind block byte) = Unit {0}
+Lies cells scratch (begins h) = cells_of h ≤ cells
+Lies cells scratch (fills after at hs) = (at + length hs ≤ cells) × (take (length hs) scratch ≡ hs)
 
--- what is written to the spans is there, and 16 bits hold it
-abbrev pub SpanLies : ℕ → Span → Type 0
-SpanLies numbers Stays = Unit {0}
-SpanLies numbers (Opens column row posts) = (2 * column + 2 ≤ numbers) × ((row ≤ 65535) × (posts ≤ 65535))
-
--- what a verdict writes is there: its cells in a grid of so many, its numbers in spans of so many, and its heights at the front of the scratch
-abbrev pub Lies : Room → List ℤ → Verdict → Type 0
-Lies room scratch again = Unit {0}
-Lies room scratch (wrong kind block byte) = Unit {0}
-Lies room scratch (begins h) = (cells_of h ≤ room.cells) × (numbers_of h ≤ room.numbers)
-Lies room scratch (fills after at hs span) = (at + length hs ≤ room.cells) × ((take (length hs) scratch ≡ hs) × SpanLies room.numbers span)
-
-pub record Judging (s : Session) (v : Verdict) (room : Room) (scratch : List ℤ) (j : Judged) : Type 0 where
+pub record Judging (s : Session) (v : Verdict) (cells : ℕ) (scratch : List ℤ) (j : Judged) : Type 0 where
   pub judged-is : j ≡ judged_of s v
-  pub lies : Lies room scratch v
-
--- the room that a sheet needs
-abbrev pub sheet_room : Header → Room
-sheet_room h = room (cells_of h) (numbers_of h)
+  pub lies : Lies cells scratch v
 
 -- n posts of tally u judged: as any heights of that number, that tally and that sum
 abbrev pub ByTally : Session → (List ℤ → Verdict) → ℕ → Tally → ℤ → Judged → Type 0
@@ -142,11 +125,11 @@ ByTally s v n u sum j =
 
 -- ---- a run
 
--- where a run stands, by what it would return and what is lent as it is
-abbrev pub standing : Ran → Lent → Running
-standing r lent = running r.answer r.session lent r.count
+-- where a run stands, by what it would return and the grid as it is
+abbrev pub standing : Ran → List ℤ → Running
+standing r grid = running r.answer r.session (lend grid) r.count
 
--- after an answer: a taken block shows that grid and spans are long enough, a refused one is not counted and ends the run
+-- after an answer: a taken block shows that the grid is long enough, a refused one is not counted and ends the run
 abbrev pub paced_by : Bool → ℕ → Session → Answer → Pace
 paced_by roomy count s Taken = record { ran = record { answer = Taken; session = s; count = count + 1 }; roomy = true; more = true }
 paced_by roomy count s Held = record { ran = record { answer = Held; session = s; count = count + 1 }; roomy = roomy; more = true }
@@ -154,7 +137,7 @@ paced_by roomy count s (Refused kind block byte) =
     record { ran = record { answer = Refused kind block byte; session = s; count = count }; roomy = roomy; more = false }
 
 -- what is known before each block
-pub record Pacing (room : Room) (p : Pace) : Type 0 where
+pub record Pacing (cells : ℕ) (p : Pace) : Type 0 where
   pub sound-is : sound p.ran.session ≡ true
-  pub room-is : enough room p.ran.session.header ≡ p.roomy
+  pub room-is : leb (cells_of p.ran.session.header) cells ≡ p.roomy
   pub more-is : is_refused p.ran.answer ≡ not p.more

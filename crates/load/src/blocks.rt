@@ -1,8 +1,8 @@
 // A later block judged whole: posts, blanks and places first, then the session after it.
 ghost use Rattle.std.specs.Prelude.{◌≡◌, false, [], ◌+◌, ◌≤◌, ◌<◌};
-ghost use Rattle.load.specs.Steps.{sheet_room, Opened, Opening, Placeable, Next, Judging, ByTally};
-ghost use Rattle.delivery.specs.Deliver.{span_of, further, opening_with, opening, placed, filling, first_column, opened, unless, fills, finished_session, later};
-ghost use Rattle.lent.specs.declared.Span.TheVariants.{Stays};
+ghost use Rattle.load.specs.Steps.{Opened, Opening, Placeable, Next, Judging, ByTally};
+ghost use Rattle.delivery.specs.Deliver.{further, opening_with, opening, placed, filling, first_column, opened, unless, fills, finished_session, later};
+ghost use Rattle.frame.specs.Frame.{cells_of};
 ghost use Rattle.gate.specs.Gate.{judged_of};
 ghost use Rattle.profile.specs.RecordB.{record_b};
 ghost use Rattle.profile.specs.RecordC.{record_c};
@@ -12,14 +12,13 @@ use crate::steps;
 use gate::verdict;
 use gate::verdict::Judged;
 use ground::Tally;
-use lent::Span;
 use profile::record_b::{Head, Headed};
 use session::Session;
 
 // A further block of the open profile: posts from byte 1, at most 170.
 fn further_block(s: Session, number: u64, block: &[u8], scratch: &mut [i32]) -> Judged
     requires { Opened s number block.now scratch.old }
-    ensures { Judging s (further s number block.now) (sheet_room s.header) scratch.new result }
+    ensures { Judging s (further s number block.now) (cells_of s.header) scratch.new result }
 {
     let p = s.profile;
     let h = s.header;
@@ -31,13 +30,13 @@ fn further_block(s: Session, number: u64, block: &[u8], scratch: &mut [i32]) -> 
     }
     let tally = r.tally;
     let sum = posts::sum_filled(scratch, n as usize);
-    steps::fill_step(s, number, s.column, p, n, tally, sum, Span::Stays)
+    steps::fill_step(s, number, s.column, p, n, tally, sum)
 }
 
 // A profile's first block whose posts are good: its place, then its cells.
 fn place_profile(s: Session, number: u64, head: Head, n: u64, u: Tally, sum: i64) -> Judged
     requires { Placeable s number head n u sum }
-    ensures { ByTally s (λ hs. placed s number head (filling s number (first_column s head) (opened s head) (span_of s (first_column s head) (opened s head)) hs)) n u sum result }
+    ensures { ByTally s (λ hs. placed s number head (filling s number (first_column s head) (opened s head) hs)) n u sum result }
 {
     let h = s.header;
     let c = frame::column_of(h, head.x);
@@ -50,14 +49,13 @@ fn place_profile(s: Session, number: u64, head: Head, n: u64, u: Tally, sum: i64
     }
     let column = rules::first_column(s, c);
     let p = rules::open_profile(head, w);
-    let span = steps::span_of(s, column, p);
-    steps::fill_step(s, number, column, p, n, u, sum, span)
+    steps::fill_step(s, number, column, p, n, u, sum)
 }
 
 // A profile's first block: posts from byte 145, at most 146.
 fn open_block(s: Session, number: u64, block: &[u8], head: Head, scratch: &mut [i32]) -> Judged
     requires { Opening s number block.now head scratch.old }
-    ensures { Judging s (opening_with s number block.now head) (sheet_room s.header) scratch.new result }
+    ensures { Judging s (opening_with s number block.now head) (cells_of s.header) scratch.new result }
 {
     let h = s.header;
     let n = figures::fewer_of(head.posts, 146);
@@ -74,7 +72,7 @@ fn open_block(s: Session, number: u64, block: &[u8], head: Head, scratch: &mut [
 // The next profile's first block, whose head is read first.
 fn start_profile(s: Session, number: u64, block: &[u8], scratch: &mut [i32]) -> Judged
     requires { Next s number block.now scratch.old × ((busy s ≡ false) × (s.closed < s.header.profiles)) }
-    ensures { Judging s (opening s number block.now (record_b s.family (s.closed + 1) block.now)) (sheet_room s.header) scratch.new result }
+    ensures { Judging s (opening s number block.now (record_b s.family (s.closed + 1) block.now)) (cells_of s.header) scratch.new result }
 {
     let headed = profile::record_b::read_head(s.family, s.closed + 1, block);
     match headed {
@@ -86,19 +84,19 @@ fn start_profile(s: Session, number: u64, block: &[u8], scratch: &mut [i32]) -> 
 // Record C: no cell, one block more.
 fn finish_sheet(s: Session, number: u64, block: &[u8]) -> Judged
     requires { s.taken ≤ 26626 }
-    ensures { result ≡ judged_of s (unless (record_c block.now) number (fills (finished_session s) 0 [] Stays)) }
+    ensures { result ≡ judged_of s (unless (record_c block.now) number (fills (finished_session s) 0 [])) }
 {
     let f = profile::record_c::check_record_c(block);
     if f.kind != 0 {
         return verdict::refused(s, f.kind, number, f.byte);
     }
-    verdict::taken(progress::finish_session(s), 0, 0, Span::Stays)
+    verdict::taken(progress::finish_session(s), 0, 0, 0)
 }
 
 // A later block, judged whole before a cell is written.
 pub(crate) fn later_block(s: Session, number: u64, block: &[u8], scratch: &mut [i32]) -> Judged
     requires { Next s number block.now scratch.old }
-    ensures { Judging s (later s number block.now) (sheet_room s.header) scratch.new result }
+    ensures { Judging s (later s number block.now) (cells_of s.header) scratch.new result }
 {
     let p = s.profile;
     let h = s.header;

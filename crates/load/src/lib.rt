@@ -4,11 +4,10 @@ mod run;
 mod steps;
 
 ghost use Rattle.std.specs.Prelude.{◌≡◌, length};
-ghost use Rattle.lent.specs.Lent.{room, lend};
-ghost use Rattle.delivery.specs.Deliver.{deliver_of, lent_after, verdict_of};
-ghost use Rattle.gate.specs.Gate.{gate_of};
+ghost use Rattle.delivery.specs.Deliver.{lend, deliver_of, lent_after, verdict_of};
+ghost use Rattle.gate.specs.Gate.{room, gate_of};
 ghost use Rattle.runs.specs.Run.{run_of, ran_of};
-ghost use Rattle.load.specs.Steps.{Judging, told, grid_by, spans_by};
+ghost use Rattle.load.specs.Steps.{Judging, told, grid_by};
 
 use delivery::Delivered;
 use gate::verdict::{Gate, Judged};
@@ -22,29 +21,25 @@ fn judge(
     number: u64,
     block: &[u8],
     cells: usize,
-    numbers: usize,
     scratch: &mut [i32],
 ) -> Judged
-    requires { (g ≡ gate_of s number (length block.now) (room cells numbers)) × (length scratch.old ≡ 170) }
-    ensures { Judging s (verdict_of s number block.now (room cells numbers)) (room cells numbers) scratch.new result }
+    requires { (g ≡ gate_of s number (length block.now) (room cells)) × (length scratch.old ≡ 170) }
+    ensures { Judging s (verdict_of s number block.now (room cells)) cells scratch.new result }
 {
     match g {
         Gate::Stop(kind) => gate::verdict::refused(s, kind, number, 0),
         Gate::Again => gate::verdict::held(s),
-        Gate::Begin => gate::judge_first(s, block, cells, numbers),
+        Gate::Begin => gate::judge_first(s, block, cells),
         Gate::Later => blocks::later_block(s, number, block, scratch),
     }
 }
 
 // What was judged, done: only here is what is lent written.
-fn apply(judged: Judged, scratch: &[i32], grid: &mut [i32], spans: &mut [u16]) -> Delivered
-    ensures { (result ≡ told judged) × ((grid.new ≡ grid_by scratch.now judged grid.old) × (spans.new ≡ spans_by judged spans.old)) }
+fn apply(judged: Judged, scratch: &[i32], grid: &mut [i32]) -> Delivered
+    ensures { (result ≡ told judged) × (grid.new ≡ grid_by scratch.now judged grid.old) }
 {
     posts::void_cells(grid, judged.voids as usize);
     posts::place(grid, judged.at as usize, scratch, judged.heights as usize);
-    lent::blank_columns(spans, judged.blanks);
-    let span = judged.span;
-    lent::put_span(spans, span);
     let answer = judged.answer;
     let session = judged.session;
     Delivered { answer, session }
@@ -58,39 +53,26 @@ pub(crate) fn settle(
     block: &[u8],
     scratch: &mut [i32],
     grid: &mut [i32],
-    spans: &mut [u16],
 ) -> Delivered
-    requires { (g ≡ gate_of s number (length block.now) (room (length grid.old) (length spans.old))) × (length scratch.old ≡ 170) }
-    ensures { (result ≡ deliver_of s number block.now (lend grid.old spans.old)) × ((grid.new ≡ (lent_after s number block.now (lend grid.old spans.old)).grid) × (spans.new ≡ (lent_after s number block.now (lend grid.old spans.old)).spans)) }
+    requires { (g ≡ gate_of s number (length block.now) (room (length grid.old))) × (length scratch.old ≡ 170) }
+    ensures { (result ≡ deliver_of s number block.now (lend grid.old)) × (grid.new ≡ (lent_after s number block.now (lend grid.old)).grid) }
 {
-    let judged = judge(g, s, number, block, grid.len(), spans.len(), scratch);
-    apply(judged, &scratch[..], grid, spans)
+    let judged = judge(g, s, number, block, grid.len(), scratch);
+    apply(judged, &scratch[..], grid)
 }
 
-// One delivery: any session, number, bytes, grid and spans are answered; a refused or held block changes nothing.
-pub fn deliver(
-    s: Session,
-    number: u64,
-    block: &[u8],
-    grid: &mut [i32],
-    spans: &mut [u16],
-) -> Delivered
-    ensures { (result ≡ deliver_of s number block.now (lend grid.old spans.old)) × ((grid.new ≡ (lent_after s number block.now (lend grid.old spans.old)).grid) × (spans.new ≡ (lent_after s number block.now (lend grid.old spans.old)).spans)) }
+// One delivery: any session, number, bytes and grid are answered; a refused or held block changes nothing.
+pub fn deliver(s: Session, number: u64, block: &[u8], grid: &mut [i32]) -> Delivered
+    ensures { (result ≡ deliver_of s number block.now (lend grid.old)) × (grid.new ≡ (lent_after s number block.now (lend grid.old)).grid) }
 {
     let mut scratch = [0i32; 170];
-    let g = gate::gate(s, number, block.len(), grid.len(), spans.len());
-    settle(g, s, number, block, &mut scratch, grid, spans)
+    let g = gate::gate(s, number, block.len(), grid.len());
+    settle(g, s, number, block, &mut scratch, grid)
 }
 
 // Several blocks in one call, the first under this number: single deliveries in order, up to the first refusal.
-pub fn deliver_run(
-    s: Session,
-    number: u64,
-    blocks: &[u8],
-    grid: &mut [i32],
-    spans: &mut [u16],
-) -> Ran
-    ensures { (result ≡ ran_of (run_of s number blocks.now (lend grid.old spans.old))) × ((grid.new ≡ (run_of s number blocks.now (lend grid.old spans.old)).lent.grid) × (spans.new ≡ (run_of s number blocks.now (lend grid.old spans.old)).lent.spans)) }
+pub fn deliver_run(s: Session, number: u64, blocks: &[u8], grid: &mut [i32]) -> Ran
+    ensures { (result ≡ ran_of (run_of s number blocks.now (lend grid.old))) × (grid.new ≡ (run_of s number blocks.now (lend grid.old)).lent.grid) }
 {
     if blocks.len() % 1024 != 0 {
         return run::refused(s, 1, number);
@@ -101,5 +83,5 @@ pub fn deliver_run(
     if !session::is_sound(s) {
         return run::refused(s, 2, number);
     }
-    run::all_blocks(s, number, blocks, grid, spans)
+    run::all_blocks(s, number, blocks, grid)
 }

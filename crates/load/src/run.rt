@@ -1,8 +1,8 @@
-// A run of whole blocks to a sound session. What the first tests ask of session and what is lent holds from block to block, so it is asked once.
+// A run of whole blocks to a sound session. What the first tests ask of session and grid holds from block to block, so it is asked once.
 ghost use Rattle.std.specs.Prelude.{◌≡◌, true, ◌≤◌, ◌<◌, ◌^◌, length};
 ghost use Rattle.ground.specs.Blocks.{blocks_in};
 ghost use Rattle.session.specs.Session.{sound};
-ghost use Rattle.lent.specs.Lent.{room, lend};
+ghost use Rattle.delivery.specs.Deliver.{lend};
 ghost use Rattle.delivery.specs.declared.Answer.TheVariants.{Held, Refused};
 ghost use Rattle.runs.specs.Run.{with_block, run_to};
 ghost use Rattle.load.specs.Steps.{Pacing, standing, paced_by};
@@ -11,7 +11,7 @@ use delivery::{Answer, Delivered};
 use runs::Ran;
 use session::Session;
 
-// Where a run stands: what it would return, whether grid and spans are enough for the session's sheet, and whether no block was refused.
+// Where a run stands: what it would return, whether the cells lent are enough for the session's sheet, and whether no block was refused.
 #[derive(Drop)]
 pub(crate) struct Pace {
     pub ran: Ran,
@@ -78,55 +78,35 @@ fn paced(roomy: bool, count: u64, d: Delivered) -> Pace
 }
 
 // The next block of a run.
-fn next_block(
-    p: Pace,
-    number: u64,
-    block: &[u8],
-    scratch: &mut [i32],
-    grid: &mut [i32],
-    spans: &mut [u16],
-) -> Pace
-    requires { Pacing (room (length grid.old) (length spans.old)) p × ((length block.now ≡ 1024) × ((length scratch.old ≡ 170) × (p.ran.count < 2 ^ 63))) }
-    ensures { Pacing (room (length grid.new) (length spans.new)) result × ((standing result.ran (lend grid.new spans.new) ≡ with_block (standing p.ran (lend grid.old spans.old)) number block.now) × (result.more ≡ true → number ≤ 26626)) }
+fn next_block(p: Pace, number: u64, block: &[u8], scratch: &mut [i32], grid: &mut [i32]) -> Pace
+    requires { Pacing (length grid.old) p × ((length block.now ≡ 1024) × ((length scratch.old ≡ 170) × (p.ran.count < 2 ^ 63))) }
+    ensures { Pacing (length grid.new) result × ((standing result.ran grid.new ≡ with_block (standing p.ran grid.old) number block.now) × (result.more ≡ true → number ≤ 26626)) }
 {
     let ran = p.ran;
     let s = ran.session;
     let g = gate::order(s, number, p.roomy);
-    let d = crate::settle(g, s, number, block, scratch, grid, spans);
+    let d = crate::settle(g, s, number, block, scratch, grid);
     paced(p.roomy, ran.count, d)
 }
 
 // All blocks, up to the first refusal.
-pub(crate) fn all_blocks(
-    s: Session,
-    number: u64,
-    blocks: &[u8],
-    grid: &mut [i32],
-    spans: &mut [u16],
-) -> Ran
+pub(crate) fn all_blocks(s: Session, number: u64, blocks: &[u8], grid: &mut [i32]) -> Ran
     requires { sound s ≡ true }
-    ensures { standing result (lend grid.new spans.new) ≡ run_to s number blocks.now (lend grid.old spans.old) (blocks_in blocks.now) }
+    ensures { standing result grid.new ≡ run_to s number blocks.now (lend grid.old) (blocks_in blocks.now) }
 {
     let mut scratch = [0i32; 170];
     let h = s.header;
     let n = blocks.len() / 1024;
     let mut p = Pace {
         ran: set_out(s),
-        roomy: lent::has_room(h, grid.len() as u64, spans.len() as u64),
+        roomy: frame::has_room(h, grid.len() as u64),
         more: true,
     };
     let mut i = 0usize;
     while i < n && p.more {
         let from = 1024 * i;
         let to = from + 1024;
-        p = next_block(
-            p,
-            number + i as u64,
-            &blocks[from..to],
-            &mut scratch,
-            grid,
-            spans,
-        );
+        p = next_block(p, number + i as u64, &blocks[from..to], &mut scratch, grid);
         i += 1;
     }
     p.ran

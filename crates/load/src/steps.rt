@@ -1,13 +1,12 @@
 // A good block of a profile: where its cells are, and the closing rules.
 ghost use Rattle.std.specs.Prelude.{◌≡◌, ◌+◌, ◌≤◌, ◌<◌};
 ghost use Rattle.frame.specs.Frame.{rows_of};
-ghost use Rattle.delivery.specs.Deliver.{span_of, next_cell, filling};
+ghost use Rattle.delivery.specs.Deliver.{next_cell, filling};
 ghost use Rattle.load.specs.Steps.{ByTally, Filling, Placing};
 
 use gate::verdict;
 use gate::verdict::Judged;
 use ground::Tally;
-use lent::Span;
 use session::{Profile, Session};
 
 // The cell of a profile's next post.
@@ -20,14 +19,6 @@ fn next_cell(s: Session, column: u64, p: Profile) -> u64
     (column + s.closed) * rows + p.row + p.read
 }
 
-// What a profile's first block says of the spans.
-pub(crate) fn span_of(s: Session, column: u64, p: Profile) -> Span
-    requires { column + s.closed < 2048 }
-    ensures { result ≡ span_of s column p }
-{
-    Span::Opens(column + s.closed, p.row, p.posts)
-}
-
 // A good block of profile p: the session after it, or the closing rule it breaks.
 pub(crate) fn fill_step(
     s: Session,
@@ -37,19 +28,18 @@ pub(crate) fn fill_step(
     n: u64,
     u: Tally,
     sum: i64,
-    span: Span,
 ) -> Judged
     requires { Filling s p n u sum × Placing s number column p }
-    ensures { ByTally s (filling s number column p span) n u sum result }
+    ensures { ByTally s (filling s number column p) n u sum result }
 {
     let after = progress::fill_session(s, column, p, n, u, sum);
     let at = next_cell(s, column, p);
     if p.read + n < p.posts {
-        return verdict::taken(after, at, n, span);
+        return verdict::taken(after, 0, at, n);
     }
     let c = rules::close_fault(number - session::open_blocks(s), after);
     if c.kind != 0 {
         return verdict::refused(s, c.kind, c.block, c.byte);
     }
-    verdict::taken(progress::close_session(after), at, n, span)
+    verdict::taken(progress::close_session(after), 0, at, n)
 }

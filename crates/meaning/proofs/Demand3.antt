@@ -1,9 +1,9 @@
--- Demand 3, the front door, for each family of sheets that we know. Everything here is said of calls of `load::deliver`, each of which keeps the three equations of its promise (paper,
--- proof Contracts, reads them off the contract): any lent grid and spans, and any list of deliveries, any numbers, any bytes of any length, session,
--- grid and spans handed back as last returned. Each theorem cites where it is shown.
+-- Demand 3, the front door, for each family of sheets that we know. Everything here is said of calls of `load::deliver`, each of which keeps the two equations of its promise (paper,
+-- proof Contracts, reads them off the contract): any lent grid, and any list of deliveries, any numbers, any bytes of any length, session
+-- and grid handed back as last returned. Each theorem cites where it is shown.
 use mathlib.Core.List.{List, [], ◌++◌, ◌∷◌}
-use mathlib.Core.Path.{◌≡◌, sym, ◌∙◌, ap, ap₂}
-use Prim.Native.Nat.{ℕ, ◌*◌, ◌≤◌, ◌<◌}
+use mathlib.Core.Path.{◌≡◌, sym, ◌∙◌, ap}
+use Prim.Native.Nat.{ℕ, ◌≤◌, ◌<◌}
 use mathlib.Core.Bool.{cond, false, true}
 use native.Mathlib.Omega.{arith}
 use borrow.Author.Tests.{ne_eqb}
@@ -19,20 +19,18 @@ use Rattle.session.specs.Session.{opened, fresh, sound}
 use Rattle.ground.specs.Posts.{void, filled_in}
 use Rattle.ground.specs.Extremes.{filled_only, sum_of}
 use Rattle.delivery.specs.declared.Answer.TheVariants.{Taken, Refused}
-use Rattle.lent.specs.Lent.{Lent, Room, lend, room_of, first_row, stated_posts}
-use Rattle.delivery.specs.Deliver.{Verdict, wrong, verdict_of, answer_of, lent_by, deliver_of, lent_after}
-use Rattle.meaning.specs.Text.{profiles_in, columns_in, cells_in, start_of, head_in, column_in, row_in, posts_in, height_in, all_posts, filled_posts, cell_of_post}
+use Rattle.delivery.specs.Deliver.{Lent, Room, lend, room_of, Verdict, wrong, verdict_of, answer_of, lent_by, deliver_of, lent_after}
+use Rattle.meaning.specs.Text.{profiles_in, cells_in, posts_in, height_in, all_posts, filled_posts, cell_of_post}
 use Rattle.meaning.specs.Exact.{Exact}
-use Rattle.meaning.specs.Means.{begun_session, session_of, grid_of, spans_of}
+use Rattle.meaning.specs.Means.{begun_session, session_of, grid_of}
 use Rattle.meaning.specs.Rules.{first_breach}
-use Rattle.meaning.specs.Deliveries.{Delivery, Call, Promised, Fresh, session_after, lent_after_all, taken_text, deliveries, answers, twice, Disturbed, Due, Holds, Says, refused_by, answer_to}
-use Rattle.meaning.specs.PaperSheet.{paper_lent, paper_sheet, paper_session, paper_cells, paper_spans}
-use Rattle.meaning.proofs.Desks.{Desk, desk, at_first, after_all, call-desk, call-answer, call-left, calls-desk, calls-text}
-use Rattle.meaning.proofs.OneDelivery.{Stands, meant, stands-first, answer-told, not-taken-nothing as nothing-changed}
+use Rattle.meaning.specs.Deliveries.{Delivery, Call, Promised, Fresh, session_after, grid_after, taken_text, deliveries, answers, twice, Disturbed, Due, Holds, refused_by, answer_to}
+use Rattle.meaning.specs.PaperSheet.{paper_lent, paper_sheet, paper_session, paper_cells}
+use Rattle.meaning.proofs.Desks.{Desk, desk, at_first, after_all, call-desk, call-answer, calls-desk, calls-text}
+use Rattle.meaning.proofs.OneDelivery.{Stands, stands-first, answer-told, not-taken-nothing as nothing-changed}
 use Rattle.meaning.proofs.Runs.{stands_after, taken-due, due-taken, late-not-taken, next-answer, twice-once, disturbed-same}
 use Rattle.meaning.proofs.ShutOut.{is_refused, is_held, all_are}
 use Rattle.meaning.proofs.EachPost as Cells
-use Rattle.meaning.proofs.EachSpan as Spans
 use Rattle.meaning.proofs.Weighing as Weighing
 use Rattle.meaning.proofs.EachNumber as Numbers
 use Rattle.meaning.proofs.ShutOut as Shut
@@ -44,46 +42,40 @@ unfolding verdict_of sound
 unknown-wrong s k number block room = by-test (eqb (length block) 1024) (λ l. rw (l, k)) (λ l. rw l)
 
 -- what a desk holds, taken apart
-same-desks : {s t : Session} {g f : Lent} → desk s g ≡ desk t f → (s ≡ t) × (g ≡ f)
-same-desks e = (ap (λ (k : Desk). k.session) e, ap (λ (k : Desk). k.lent) e)
+same-desks : {s t : Session} {g f : List ℤ} → desk s (lend g) ≡ desk t (lend f) → (s ≡ t) × (g ≡ f)
+same-desks e = (ap (λ (k : Desk). k.session) e, ap (λ (k : Desk). k.lent.grid) e)
 
 begun-means : (family : ℕ) (text : List ℕ) → 1 ≤ blocks_in text → session_of family text ≡ begun_session family text
 begun-means family text some = let e : eqb (blocks_in text) 0 ≡ false = ne_eqb (blocks_in text) 0 (λ z. omega (arith, z, some)) in rw e
 
-pub calls-stand : (family : ℕ) → known family ≡ true → (lent : Lent) (cs : List Call) → Fresh family lent cs
-    → Stands family (taken_text cs) lent (desk (session_after (opened family) cs) (lent_after_all lent cs))
+calls-stand : (family : ℕ) → known family ≡ true → (lent : List ℤ) (cs : List Call) → Fresh family lent cs
+    → Stands family (taken_text cs) lent (desk (session_after (opened family) cs) (lend (grid_after lent cs)))
 calls-stand family ours lent cs kept = rw (calls-text kept, calls-desk kept) (stands_after family ours lent (deliveries cs))
 
-module _ (family : ℕ) (ours : known family ≡ true) (lent : Lent) (cs : List Call) (kept : Fresh family lent cs) where
-  -- session, grid and spans after the calls, and the taken blocks joined as one text
+module _ (family : ℕ) (ours : known family ≡ true) (lent : List ℤ) (cs : List Call) (kept : Fresh family lent cs) where
+  -- session and grid after the calls, and the taken blocks joined as one text
   abbrev session : Session
   session = session_after (opened family) cs
 
-  abbrev left : Lent
-  left = lent_after_all lent cs
-
   abbrev grid : List ℤ
-  grid = left.grid
-
-  abbrev spans : List ℕ
-  spans = left.spans
+  grid = grid_after lent cs
 
   abbrev text : List ℕ
   text = taken_text cs
 
-  stands : Stands family text lent (desk session left)
+  stands : Stands family text lent (desk session (lend grid))
   stands = calls-stand family ours lent cs kept
 
-  -- the next call, handed session, grid and spans
+  -- the next call, handed session and grid
   abbrev pub Next : Call → Type 0
-  Next c = Promised session left c
+  Next c = Promised session (lend grid) c
 
-  told : (c : Call) → Next c → c.returned.answer ≡ answer_to family text c.sent.number c.sent.bytes (room_of lent)
-  told c p = call-answer p ∙ answer-told family text lent (desk session left) stands c.sent
+  told : (c : Call) → Next c → c.returned.answer ≡ answer_to family text c.sent.number c.sent.bytes (room_of (lend lent))
+  told c p = call-answer p ∙ answer-told family text lent (desk session (lend grid)) stands c.sent
 
   -- ---- 1. what is taken, and what is then on the desk
 
-  -- a delivery is taken exactly when its number is the next one, the taken blocks with it break no rule, and grid and spans are long enough
+  -- a delivery is taken exactly when its number is the next one, the taken blocks with it break no rule, and the grid is long enough
   pub taken-exactly : (c : Call) → Next c → (c.returned.answer ≡ Taken) ↔ Due family text lent c.sent
   taken-exactly c p =
       (λ e. taken-due family text lent stands.good c.sent (sym (told c p) ∙ e), λ due. told c p ∙ due-taken family text lent stands.good c.sent due)
@@ -93,23 +85,18 @@ module _ (family : ℕ) (ours : known family ≡ true) (lent : Lent) (cs : List 
   session-means = stands.session-is
 
   -- the grid is what the taken blocks mean
-  pub grid-means : grid ≡ grid_of text lent.grid
-  grid-means = ap (λ (l : Lent). l.grid) stands.lent_is
+  pub grid-means : grid ≡ grid_of text lent
+  grid-means = stands.grid-is
 
-  -- 02, request 7: so are the spans
-  pub spans-mean : spans ≡ spans_of text lent.spans
-  spans-mean = ap (λ (l : Lent). l.spans) stands.lent_is
-
-  -- the taken blocks break no rule themselves, and grid and spans are long enough for their sheet
-  pub taken-kept : 1 ≤ blocks_in text
-      → ((first_breach family text).kind ≡ 0) × (cells_in text ≤ length lent.grid) × (2 * columns_in text ≤ length lent.spans)
-  taken-kept some = (stands.good.kept some, stands.good.room some, stands.good.numbers some)
+  -- the taken blocks break no rule themselves, and the grid is long enough for their sheet
+  pub taken-kept : 1 ≤ blocks_in text → ((first_breach family text).kind ≡ 0) × (cells_in text ≤ length lent)
+  taken-kept some = (stands.good.kept some, stands.good.room some)
 
   -- ---- 2. every post in one cell
 
   -- no cell is added or lost
-  pub as-many-cells : length grid ≡ length lent.grid
-  as-many-cells = ap length grid-means ∙ Cells.length-kept text lent.grid stands.good.room
+  pub as-many-cells : length grid ≡ length lent
+  as-many-cells = ap length grid-means ∙ Cells.length-kept text lent stands.good.room
 
   -- a cell of the sheet is one of the grid
   inside : 1 ≤ blocks_in text → (c : ℕ) → c < cells_in text → c < length grid
@@ -125,7 +112,7 @@ module _ (family : ℕ) (ours : known family ≡ true) (lent : Lent) (cs : List 
   post-in-its-cell some j i p q = (
     inside some (cell_of_post text j i) (post-in-sheet some j i p q),
     ap (λ (g : List ℤ). get_or g (cell_of_post text j i) void) grid-means
-        ∙ Cells.post-in-its-cell family text (stands.good.kept some) lent.grid j i p q,
+        ∙ Cells.post-in-its-cell family text (stands.good.kept some) lent j i p q,
   )
 
   -- no two posts stand in the same cell
@@ -138,18 +125,18 @@ module _ (family : ℕ) (ours : known family ≡ true) (lent : Lent) (cs : List 
       → ((j i : ℕ) → j < profiles_in text → i < posts_in text j → cell_of_post text j i ≡ c → ⊥) → Holds grid c void
   other-cells-void some c lt none = (
     inside some c lt,
-    ap (λ (g : List ℤ). get_or g c void) grid-means ∙ Cells.other-cells-void family text (stands.good.kept some) lent.grid c some lt none,
+    ap (λ (g : List ℤ). get_or g c void) grid-means ∙ Cells.other-cells-void family text (stands.good.kept some) lent c some lt none,
   )
 
   -- cells past the sheet are as lent
-  pub past-the-sheet : 1 ≤ blocks_in text → drop (cells_in text) grid ≡ drop (cells_in text) lent.grid
-  past-the-sheet some = ap (drop (cells_in text)) grid-means ∙ Cells.past-the-sheet text lent.grid some
+  pub past-the-sheet : 1 ≤ blocks_in text → drop (cells_in text) grid ≡ drop (cells_in text) lent
+  past-the-sheet some = ap (drop (cells_in text)) grid-means ∙ Cells.past-the-sheet text lent some
 
   -- as many filled cells as filled posts: those that are not -32767
   pub filled-as-posts : 1 ≤ blocks_in text → filled_in (take (cells_in text) grid) ≡ filled_posts (all_posts text)
   filled-as-posts some =
       ap (λ (g : List ℤ). filled_in (take (cells_in text) g)) grid-means
-      ∙ Weighing.filled-as-posts family text (stands.good.kept some) lent.grid some
+      ∙ Weighing.filled-as-posts family text (stands.good.kept some) lent some
       ∙ Numbers.filled-posts family text (stands.good.kept some)
 
   -- and the session's counts are the text's: blocks, posts and filled posts
@@ -168,96 +155,60 @@ module _ (family : ℕ) (ours : known family ≡ true) (lent : Lent) (cs : List 
       ap (λ (s : Session). s.sum) (session-means ∙ begun-means family text some)
       ∙ sym
       (ap (λ (g : List ℤ). sum_of (filled_only (take (cells_in text) g))) grid-means
-      ∙ Weighing.sum-as-posts family text (stands.good.kept some) lent.grid some)
+      ∙ Weighing.sum-as-posts family text (stands.good.kept some) lent some)
 
   -- each decimal exact: every number of header, heads and posts is the grammar's meaning of its bytes, and a filled cell is made of them
   pub each_number : 1 ≤ blocks_in text → Exact family text
   each_number some = Numbers.each_number family text (stands.good.kept some)
 
-  -- until block 0 is taken grid and spans are as lent
-  pub lent-until-block-0 : blocks_in text ≡ 0 → left ≡ lent
-  lent-until-block-0 none =
-      stands.lent_is ∙ ap₂ lend (Cells.lent-until-block-0 text lent.grid none) (Spans.lent-until-block-0 text lent.spans none)
+  -- until block 0 is taken the grid is as lent
+  pub lent-until-block-0 : blocks_in text ≡ 0 → grid ≡ lent
+  lent-until-block-0 none = grid-means ∙ Cells.lent-until-block-0 text lent none
 
-  -- ---- 3. 02, request 7: the spans of every column
+  -- ---- 3. order and repetition do not matter
 
-  -- no number is added or lost
-  pub as-many-numbers : length spans ≡ length lent.spans
-  as-many-numbers = ap length spans-mean ∙ Spans.length-kept text lent.spans stands.good.numbers
-
-  -- a column of the sheet is one of the spans
-  says : 1 ≤ blocks_in text → (column row posts : ℕ) → column < columns_in text → first_row (spans_of text lent.spans) column ≡ row
-      → stated_posts (spans_of text lent.spans) column ≡ posts → Says spans column row posts
-  says some column row posts lt r m = (
-    omega (arith, lt, stands.good.numbers some, as-many-numbers),
-    ap (λ (l : List ℕ). first_row l column) spans-mean ∙ r,
-    ap (λ (l : List ℕ). stated_posts l column) spans-mean ∙ m,
-  )
-
-  -- a profile whose first block is taken has its first row and its stated posts in its column's two numbers
-  pub span-in-its-column : 1 ≤ blocks_in text → (j : ℕ) → j < profiles_in text → start_of text j < blocks_in text
-      → Says spans (column_in text j) (row_in text j) (head_in text j).posts
-  span-in-its-column some j lt begun =
-      let s = Spans.span-in-its-column family text (stands.good.kept some) lent.spans j lt begun in
-      says some (column_in text j) (row_in text j) (head_in text j).posts (Spans.column-inside family text (stands.good.kept some) lent.spans j lt begun) s.0 s.1
-
-  -- every other column of the sheet has zero and zero
-  pub other-columns-zero : 1 ≤ blocks_in text → (column : ℕ) → column < columns_in text
-      → ((j : ℕ) → j < profiles_in text → start_of text j < blocks_in text → column_in text j ≡ column → ⊥)
-      → Says spans column 0 0
-  other-columns-zero some column lt none =
-      let s = Spans.other-columns-zero family text (stands.good.kept some) lent.spans column some lt none in
-      says some column 0 0 lt s.0 s.1
-
-  -- numbers past the sheet's columns are as lent
-  pub past-the-columns : 1 ≤ blocks_in text → drop (2 * columns_in text) spans ≡ drop (2 * columns_in text) lent.spans
-  past-the-columns some = ap (drop (2 * columns_in text)) spans-mean ∙ Spans.past-the-columns text lent.spans some
-
-  -- ---- 4. order and repetition do not matter
-
-  -- other calls with the same taken blocks leave the same session, grid and spans
-  pub same-taken-blocks : (es : List Call) → Fresh family lent es → taken_text es ≡ text → (session_after (opened family) es ≡ session) × (lent_after_all lent es ≡ left)
+  -- other calls with the same taken blocks leave the same session and grid
+  pub same-taken-blocks : (es : List Call) → Fresh family lent es → taken_text es ≡ text → (session_after (opened family) es ≡ session) × (grid_after lent es ≡ grid)
   same-taken-blocks es other e =
       let there = calls-stand family ours lent es other in
-      (there.session-is ∙ ap (session_of family) e ∙ sym session-means, there.lent_is ∙ ap (λ (t : List ℕ). meant t lent) e ∙ sym stands.lent_is)
+      (there.session-is ∙ ap (session_of family) e ∙ sym session-means, there.grid-is ∙ ap (λ (t : List ℕ). grid_of t lent) e ∙ sym grid-means)
 
   -- every delivery of any list twice in a row ends as once
   pub twice-as-once : (es : List Call) → Fresh family lent es → deliveries es ≡ twice (deliveries cs)
-      → (session_after (opened family) es ≡ session) × (lent_after_all lent es ≡ left)
+      → (session_after (opened family) es ≡ session) × (grid_after lent es ≡ grid)
   twice-as-once es other e =
       same-desks (calls-desk other ∙ ap (after_all (at_first family lent)) e ∙ twice-once family [] lent (at_first family lent) (stands-first family ours lent) (deliveries cs) ∙ sym (calls-desk kept))
 
   -- deliveries among them that are not taken, early, held or damaged, as many as there be, end as though they had not come
   pub damage-as-none : (es : List Call) → Fresh family lent es → Disturbed es (deliveries cs)
-      → (session_after (opened family) es ≡ session) × (lent_after_all lent es ≡ left)
+      → (session_after (opened family) es ≡ session) × (grid_after lent es ≡ grid)
   damage-as-none es other d = same-desks (calls-desk other ∙ disturbed-same other d ∙ sym (calls-desk kept))
 
   -- a block sent again, however late and whatever its bytes, changes nothing: its number is below the blocks taken
-  pub again-changes-nothing : (c : Call) → Next c → c.sent.number < blocks_in text → (c.returned.session ≡ session) × (c.left ≡ left)
+  pub again-changes-nothing : (c : Call) → Next c → c.sent.number < blocks_in text → (c.returned.session ≡ session) × (c.left.grid ≡ grid)
   again-changes-nothing c p lt =
       same-desks
       (call-desk p
-      ∙ nothing-changed (desk session left) c.sent
-      (λ t. late-not-taken family text lent stands.good c.sent lt (sym (answer-told family text lent (desk session left) stands c.sent) ∙ t)))
+      ∙ nothing-changed (desk session (lend grid)) c.sent
+      (λ t. late-not-taken family text lent stands.good c.sent lt (sym (answer-told family text lent (desk session (lend grid)) stands c.sent) ∙ t)))
 
-  -- ---- 5. refusals are right
+  -- ---- 4. refusals are right
 
   -- every answer, with kind, block and byte, is the one that document 01's table tells of the taken blocks
-  pub answered-as-told : (c : Call) → Next c → c.returned.answer ≡ answer_to family text c.sent.number c.sent.bytes (room_of lent)
+  pub answered-as-told : (c : Call) → Next c → c.returned.answer ≡ answer_to family text c.sent.number c.sent.bytes (room_of (lend lent))
   answered-as-told = told
 
-  -- the next block, with grid and spans long enough, is refused with the first rule that the text with it breaks, or taken
+  -- the next block, with a grid long enough, is refused with the first rule that the text with it breaks, or taken
   pub first-fault-said : (c : Call) → Next c → length c.sent.bytes ≡ 1024 → c.sent.number ≡ blocks_in text
-      → cells_in (text ++ c.sent.bytes) ≤ length lent.grid → 2 * columns_in (text ++ c.sent.bytes) ≤ length lent.spans
-      → c.returned.answer ≡ refused_by (first_breach family (text ++ c.sent.bytes)) Taken
-  first-fault-said c p one next room numbers = told c p ∙ next-answer family text lent stands.good c.sent one next room numbers
+      → cells_in (text ++ c.sent.bytes) ≤ length lent → c.returned.answer ≡ refused_by (first_breach family (text ++ c.sent.bytes)) Taken
+  first-fault-said c p one next room = told c p ∙ next-answer family text lent stands.good c.sent one next room
 
   -- whatever is not taken changes nothing
-  pub not-taken-nothing : (c : Call) → Next c → (c.returned.answer ≡ Taken → ⊥) → (c.returned.session ≡ session) × (c.left ≡ left)
+  pub not-taken-nothing : (c : Call) → Next c → (c.returned.answer ≡ Taken → ⊥) → (c.returned.session ≡ session) × (c.left.grid ≡ grid)
   not-taken-nothing c p not =
-      same-desks (call-desk p ∙ nothing-changed (desk session left) c.sent (λ t. not (call-answer p ∙ t)))
+      same-desks (call-desk p ∙ nothing-changed (desk session (lend grid)) c.sent (λ t. not (call-answer p ∙ t)))
 
--- ---- 6. shut out: readers that document 01 names, by calls that deliver the paper's own sheet
+-- ---- 5. shut out: readers that document 01 names, by calls that deliver the paper's own sheet
 
 module _ (cs : List Call) (kept : Fresh 0 paper_lent cs) (paper : deliveries cs ≡ paper_sheet) where
   -- the paper's three blocks are taken
@@ -268,11 +219,8 @@ module _ (cs : List Call) (kept : Fresh 0 paper_lent cs) (paper : deliveries cs 
   pub paper-session : session_after fresh cs ≡ paper_session
   paper-session = Shut.session-is cs kept paper
 
-  pub paper-cells : (lent_after_all paper_lent cs).grid ≡ paper_cells
+  pub paper-cells : grid_after paper_lent cs ≡ paper_cells
   paper-cells = Shut.cells_are cs kept paper
-
-  pub paper-spans : (lent_after_all paper_lent cs).spans ≡ paper_spans
-  paper-spans = Shut.spans-are cs kept paper
 
   -- not all are refused, nor all held
   pub not-all-refused : all_are is_refused (answers cs) ≡ true → ⊥
@@ -283,27 +231,27 @@ module _ (cs : List Call) (kept : Fresh 0 paper_lent cs) (paper : deliveries cs 
 
 module _ (c : Call) (cs : List Call) (kept : Fresh 0 paper_lent (c ∷ cs)) (paper : deliveries (c ∷ cs) ≡ paper_sheet) where
   -- behind block 0 blocks are not taken without placing anything
-  pub places-what-it-takes : (lent_after_all c.left cs).grid ≡ c.left.grid → ⊥
+  pub places-what-it-takes : grid_after c.left.grid cs ≡ c.left.grid → ⊥
   places-what-it-takes = Shut.places-what-it-takes c cs kept paper
 
   -- nor does the session stand still
   pub works-after-first : session_after c.returned.session cs ≡ c.returned.session → ⊥
   works-after-first = Shut.works-after-first c cs kept paper
 
--- ---- 7. no second answer (for every public function: proof OneAnswer of its room)
+-- ---- 6. no second answer (for every public function: proof OneAnswer of its room)
 
--- two calls that are given the same return the same and leave the same cells and numbers
+-- two calls that are given the same return the same and leave the same cells
 pub one-answer-each : (s : Session) (lent : Lent) (c e : Call) → Promised s lent c → Promised s lent e → c.sent ≡ e.sent
-    → (c.returned ≡ e.returned) × (c.left ≡ e.left)
+    → (c.returned ≡ e.returned) × (c.left.grid ≡ e.left.grid)
 one-answer-each s lent c e p q same =
-    (p.answers ∙ ap (λ (d : Delivery). deliver_of s d.number d.bytes lent) same ∙ sym q.answers, call-left p ∙ ap (λ (d : Delivery). lent_after s d.number d.bytes lent) same ∙ sym (call-left q))
+    (p.answers ∙ ap (λ (d : Delivery). deliver_of s d.number d.bytes lent) same ∙ sym q.answers, p.fills ∙ ap (λ (d : Delivery). (lent_after s d.number d.bytes lent).grid) same ∙ sym q.fills)
 
--- ---- 8. a family that we do not know
+-- ---- 7. a family that we do not know
 
--- whatever is delivered to a session of it, in whatever state, is refused: 1 for a block's length, else 2; session, grid and spans stay
+-- whatever is delivered to a session of it, in whatever state, is refused: 1 for a block's length, else 2; session and grid stay
 pub unknown-refused : (s : Session) → known s.family ≡ false → (lent : Lent) (c : Call) → Promised s lent c
     → (c.returned ≡ record { answer = Refused (cond (eqb (length c.sent.bytes) 1024) 2 1) c.sent.number 0; session = s })
-    × (c.left ≡ lent)
+    × (c.left.grid ≡ lent.grid)
 unknown-refused s k lent c p =
     let v = unknown-wrong s k c.sent.number c.sent.bytes (room_of lent) in
-    (p.answers ∙ ap (answer_of s) v, call-left p ∙ ap (lent_by lent) v)
+    (p.answers ∙ ap (answer_of s) v, p.fills ∙ ap (λ (x : Verdict). (lent_by lent x).grid) v)

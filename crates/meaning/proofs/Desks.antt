@@ -1,4 +1,4 @@
--- Deliveries computed: the desk, session and what is lent, that a list of them leaves by the definition of one delivery. Calls that keep the
+-- Deliveries computed: the desk, session and lent grid, that a list of them leaves by the definition of one delivery. Calls that keep the
 -- promise leave the same, so what is shown of desks holds of calls.
 use mathlib.Core.List.{List, ◌++◌, [], ◌∷◌}
 use mathlib.Core.Path.{◌≡◌, refl, ◌∙◌, ap, ap₂}
@@ -8,9 +8,8 @@ use Rattle.session.specs.declared.Session.{Session}
 use Rattle.session.specs.Session.{opened}
 use Rattle.delivery.specs.declared.Answer.{Answer}
 use Rattle.delivery.specs.declared.Delivered.{Delivered}
-use Rattle.lent.specs.Lent.{Lent, lend}
-use Rattle.delivery.specs.Deliver.{deliver_of, lent_after}
-use Rattle.meaning.specs.Deliveries.{Delivery, Call, Promised, Calls, no_call, called, session_after, lent_after_all, bytes_if, taken_text, deliveries, answers}
+use Rattle.delivery.specs.Deliver.{Lent, lend, deliver_of, lent_after}
+use Rattle.meaning.specs.Deliveries.{Delivery, Call, Promised, Calls, no_call, called, session_after, grid_after, bytes_if, taken_text, deliveries, answers}
 
 pub record Desk : Type 0 where
   pub session : Session
@@ -19,8 +18,8 @@ pub record Desk : Type 0 where
 abbrev pub desk : Session → Lent → Desk
 desk s lent = record { session = s; lent = lent }
 
-abbrev pub at_first : ℕ → Lent → Desk
-at_first family lent = desk (opened family) lent
+abbrev pub at_first : ℕ → List ℤ → Desk
+at_first family grid = desk (opened family) (lend grid)
 
 abbrev pub answered : Desk → Delivery → Answer
 answered k d = (deliver_of k.session d.number d.bytes k.lent).answer
@@ -48,10 +47,7 @@ all_answered k (d ∷ ds) = answered k d ∷ all_answered (after k d) ds
 
 module _ {s : Session} {lent : Lent} {c : Call} (p : Promised s lent c) where
   pub call-desk : desk c.returned.session c.left ≡ after (desk s lent) c.sent
-  call-desk = λ i. record { session = (p.answers i).session; lent = lend (p.fills i) (p.marks i) }
-
-  pub call-left : c.left ≡ lent_after s c.sent.number c.sent.bytes lent
-  call-left = λ i. lend (p.fills i) (p.marks i)
+  call-desk = λ i. record { session = (p.answers i).session; lent = lend (p.fills i) }
 
   pub call-answer : c.returned.answer ≡ answered (desk s lent) c.sent
   call-answer = ap (λ (r : Delivered). r.answer) p.answers
@@ -59,7 +55,7 @@ module _ {s : Session} {lent : Lent} {c : Call} (p : Promised s lent c) where
 -- ---- calls one after another
 
 pub calls-desk : {s : Session} {lent : Lent} {cs : List Call} → Calls s lent cs
-    → desk (session_after s cs) (lent_after_all lent cs) ≡ after_all (desk s lent) (deliveries cs)
+    → desk (session_after s cs) (lend (grid_after lent.grid cs)) ≡ after_all (desk s lent) (deliveries cs)
 calls-desk no_call = refl
 calls-desk (called {s} {lent} {c} {cs} p rest) = calls-desk rest ∙ ap (λ (k : Desk). after_all k (deliveries cs)) (call-desk p)
 
@@ -84,7 +80,7 @@ calls_for k (d ∷ ds) =
 
 pub calls-kept : (k : Desk) (ds : List Delivery) → Calls k.session k.lent (calls_for k ds)
 calls-kept k [] = no_call
-calls-kept k (d ∷ ds) = called (record { answers = refl; fills = refl; marks = refl }) (calls-kept (after k d) ds)
+calls-kept k (d ∷ ds) = called (record { answers = refl; fills = refl }) (calls-kept (after k d) ds)
 
 pub calls-deliver : (k : Desk) (ds : List Delivery) → deliveries (calls_for k ds) ≡ ds
 calls-deliver k [] = refl

@@ -20,9 +20,14 @@ use Rattle.meaning.specs.Text.{profiles_in, posts_in, column_in, row_in, profile
 use Rattle.meaning.specs.Means.{grid_of}
 use Rattle.meaning.specs.Rules.{first_breach}
 use Rattle.meaning.proofs.Starts.{none_yet}
-use Rattle.meaning.proofs.Fronts.{front-many, begun-front, front_at, front-lent, past-front, past-at, front_length}
-use Rattle.meaning.proofs.Fronts as Fronts
 use Rattle.meaning.proofs.Placed.{PlacedAt, placed_at}
+
+-- one of the values from a on
+pub map_at : {A : Type 0} (f : ℕ → A) (a n i : ℕ) (d : A) → i < n → get_or (map f (from a n)) i d ≡ f (a + i)
+map_at f a zero i d h = absurd (omega (arith, h))
+map_at f a (suc n) zero d h = ap f (sym (add-zero a))
+map_at f a (suc n) (suc i) d h =
+    let e : suc a + i ≡ a + suc i = omega arith in map_at f (suc a) n i d (omega (arith, h)) ∙ ap f e
 
 -- ---- the post that stands at a column and a row
 
@@ -78,38 +83,64 @@ posts-most text j = omega arith
 
 module _ (text : List ℕ) (lent : List ℤ) where
   pub sheet-length : length (map (cell_in text) (below (cells_in text))) ≡ cells_in text
-  sheet-length = front-many (blocks_in text) (cell_in text) (cells_in text) lent
+  sheet-length = length-map (below (cells_in text)) (cell_in text) ∙ from-length 0 (cells_in text)
 
   pub begun-grid : 1 ≤ blocks_in text → grid_of text lent ≡ map (cell_in text) (below (cells_in text)) ++ drop (cells_in text) lent
-  begun-grid = begun-front (blocks_in text) (cell_in text) (cells_in text) lent
+  begun-grid h = rw (ne_eqb (blocks_in text) 0 (λ e. omega (arith, h, e)))
 
   pub grid-cell : (c : ℕ) → 1 ≤ blocks_in text → c < cells_in text → get_or (grid_of text lent) c void ≡ cell_in text c
-  grid-cell = front_at (blocks_in text) (cell_in text) (cells_in text) lent void
+  grid-cell c h k =
+      let in-front : c < length (map (cell_in text) (below (cells_in text))) = rw sheet-length k in
+      let plus : 0 + c ≡ c = omega arith in
+      ap (λ (g : List ℤ). get_or g c void) (begun-grid h)
+      ∙ get_or-append (map (cell_in text) (below (cells_in text))) (drop (cells_in text) lent) void c in-front
+      ∙ map_at (cell_in text) 0 (cells_in text) c void k
+      ∙ ap (cell_in text) plus
 
   -- Before block 0 is taken, the grid is as lent.
   pub lent-until-block-0 : blocks_in text ≡ 0 → grid_of text lent ≡ lent
-  lent-until-block-0 = front-lent (blocks_in text) (cell_in text) (cells_in text) lent
+  lent-until-block-0 h = rw (eq-eqb (blocks_in text) 0 h)
 
   -- The cells past the sheet are as lent.
   pub past-the-sheet : 1 ≤ blocks_in text → drop (cells_in text) (grid_of text lent) ≡ drop (cells_in text) lent
-  past-the-sheet = past-front (blocks_in text) (cell_in text) (cells_in text) lent
+  past-the-sheet some =
+      ap (drop (cells_in text)) (begun-grid some)
+      ∙ drop_at (map (cell_in text) (below (cells_in text))) (drop (cells_in text) lent) (cells_in text) sheet-length
 
   -- one of them
   pub past-cell : (c : ℕ) → cells_in text ≤ c → get_or (grid_of text lent) c void ≡ get_or lent c void
-  past-cell = past-at (blocks_in text) (cell_in text) (cells_in text) lent void
+  past-cell c h =
+      by-test (eqb (blocks_in text) 0) (λ e. rw e)
+      (λ e.
+      let sheet = map (cell_in text) (below (cells_in text)) in
+      let at : c ≡ length sheet + (c - cells_in text) = omega (arith, h, sheet-length) in
+      let back : cells_in text + (c - cells_in text) ≡ c = omega (arith, h) in
+      let grid : grid_of text lent ≡ sheet ++ drop (cells_in text) lent = rw e in
+      ap₂ (λ (g : List ℤ) (k : ℕ). get_or g k void) grid at
+      ∙ get_or-append-add sheet (drop (cells_in text) lent) (c - cells_in text) void
+      ∙ get_or-drop (cells_in text) lent (c - cells_in text) void
+      ∙ ap (λ (k : ℕ). get_or lent k void) back)
 
   -- The grid is as long as the one lent, where the sheet has room in that.
   pub grid-length : cells_in text ≤ length lent → length (grid_of text lent) ≡ length lent
-  grid-length = front_length (blocks_in text) (cell_in text) (cells_in text) lent
+  grid-length h =
+      by-test (eqb (blocks_in text) 0) (λ e. rw e)
+      (λ e.
+      let sheet = map (cell_in text) (below (cells_in text)) in
+      let grid : grid_of text lent ≡ sheet ++ drop (cells_in text) lent = rw e in
+      let sum = length-append sheet (drop (cells_in text) lent) in
+      ap length grid ∙ (omega (arith, h, sum, sheet-length, length-drop (cells_in text) lent)))
 
   -- So long as the sheet, if there is one, has room in what is lent, no cell is added or lost.
   pub length-kept : (1 ≤ blocks_in text → cells_in text ≤ length lent) → length (grid_of text lent) ≡ length lent
-  length-kept = Fronts.length-kept (blocks_in text) (cell_in text) (cells_in text) lent
+  length-kept room =
+      by-test (eqb (blocks_in text) 0) (λ e. rw e)
+      (λ e. grid-length (room (let n = eqb-false (blocks_in text) 0 e in omega (arith, n))))
 
 -- ---- posts and cells
 
 module _ (family : ℕ) (text : List ℕ) (kept : (first_breach family text).kind ≡ 0) where
-  pub post-placed : (j i : ℕ) → j < profiles_in text → i < posts_in text j → PlacedAt text j
+  post-placed : (j i : ℕ) → j < profiles_in text → i < posts_in text j → PlacedAt text j
   post-placed j i h k = placed_at family text kept j h (begun-with text j i k)
 
   post-row : (j i : ℕ) → j < profiles_in text → i < posts_in text j → row_in text j + i < rows_in text
@@ -118,10 +149,10 @@ module _ (family : ℕ) (text : List ℕ) (kept : (first_breach family text).kin
   post-column : (j i : ℕ) → j < profiles_in text → i < posts_in text j → column_in text j < columns_in text
   post-column j i h k = let p = post-placed j i h k in omega (arith, p.column, p.room, h)
 
-  pub cell-column : (j i : ℕ) → j < profiles_in text → i < posts_in text j → cell_of_post text j i / rows_in text ≡ column_in text j
+  cell-column : (j i : ℕ) → j < profiles_in text → i < posts_in text j → cell_of_post text j i / rows_in text ≡ column_in text j
   cell-column j i h k = digits_div (column_in text j) (post-row j i h k)
 
-  pub cell_row : (j i : ℕ) → j < profiles_in text → i < posts_in text j → cell_of_post text j i % rows_in text ≡ row_in text j + i
+  cell_row : (j i : ℕ) → j < profiles_in text → i < posts_in text j → cell_of_post text j i % rows_in text ≡ row_in text j + i
   cell_row j i h k = digits_mod (column_in text j) (post-row j i h k)
 
   -- Every post of the text stands for a cell of the sheet.

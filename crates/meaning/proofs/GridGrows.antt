@@ -26,11 +26,14 @@ use Rattle.meaning.proofs.Starts.{start-order, start-from, none_yet}
 use Rattle.meaning.proofs.Joined.{Here, start-same, head-same, header-same, column-same, row_same, height-same, heights-whole, one-block-more, within-blocks, not-over, posts-after, new_heights, heights-grow}
 use Rattle.meaning.proofs.SessionGrows.{new-length}
 use Rattle.meaning.proofs.Placed.{placed_at}
-use Rattle.meaning.proofs.Fronts.{map_at, all_alike}
-use Rattle.meaning.proofs.EachPost.{StandsFor, stands-for, value-void, value-of-post, begun-with, begun-grid, grid-cell, past-cell, grid-length, post-in-sheet, post-in-its-cell}
+use Rattle.meaning.proofs.EachPost.{map_at, StandsFor, stands-for, value-void, value-of-post, begun-with, begun-grid, grid-cell, past-cell, grid-length, post-in-sheet, post-in-its-cell}
 
 heights-many : (text : List ℕ) (j : ℕ) → length (heights_in text j) ≡ posts_in text j
 heights-many text j = length-map (below (posts_in text j)) (height_in text j) ∙ from-length 0 (posts_in text j)
+
+all_alike : {A : Type 0} (f : ℕ → A) (v : A) (a n : ℕ) → ((i : ℕ) → f i ≡ v) → replicate n v ≡ map f (from a n)
+all_alike f v a zero h = refl
+all_alike f v a (suc n) h = ap₂ ◌∷◌ (sym (h a)) (all_alike f v (suc a) n h)
 
 module _ (family : ℕ) (text more block : List ℕ) (k : ℕ) (x : Extends text more block k) where
   same-profiles : 1 ≤ k → profiles_in more ≡ profiles_in text

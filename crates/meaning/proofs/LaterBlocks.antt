@@ -20,8 +20,7 @@ use Rattle.session.specs.declared.Session.{Session}
 use Rattle.session.specs.declared.Profile.{Profile}
 use Rattle.ground.specs.Posts.{posts_fault, posts_rest_fault, posts_of, heights, filled_in}
 use Rattle.ground.specs.Extremes.{filled_only, least_of, greatest_of}
-use Rattle.lent.specs.declared.Span.TheVariants.{Stays}
-use Rattle.delivery.specs.Deliver.{span_of, column_fits, Verdict, unless, wrong, filling, further, opening, opening_with, opened, placed, column_place, first_column, row_fits, row_place, posts_here}
+use Rattle.delivery.specs.Deliver.{column_fits, Verdict, unless, wrong, filling, further, opening, opening_with, opened, placed, column_place, first_column, row_fits, row_place, posts_here}
 use Rattle.meaning.specs.Text.{number_on, header_in, z_in, start_of, head_in, posts_in, heights_in, column_place_in, row_place_in, column_in}
 use Rattle.meaning.specs.Rules.{Breach, in_block, first_broken, breach, rule, posts_of_block, posts_byte, block_rules, column_kept, row_kept, place_rules}
 use Rattle.meaning.specs.Means.{begun_session}
@@ -106,22 +105,22 @@ module _ (family : ℕ) (text more block : List ℕ) (k : ℕ) (x : Extends text
     pub further-rules :
         further (begun_session family text) k block
         ≡ by_breach (first_broken (block_rules more c (k - start_of text c)))
-        (filling (begun_session family text) k (column_in more 0) (read_so_far text more c) Stays (new_heights text more block k x some c here))
+        (filling (begun_session family text) k (column_in more 0) (read_so_far text more c) (new_heights text more block k x some c here))
     further-rules =
         let s = begun_session family text in
         let q = k - start_of text c in
         let m = (head_in more c).posts in
         let datum = (head_in more c).datum in
         let by : ℕ → ℕ → Profile → ℕ → ℕ → Verdict
-        = λ column z p n byte. unless (posts_rest_fault byte n block) k (filling s k column p Stays (heights z p.datum (posts_of n byte block))) in
+        = λ column z p n byte. unless (posts_rest_fault byte n block) k (filling s k column p (heights z p.datum (posts_of n byte block))) in
         let col : s.column ≡ column_in more 0 = first-column (omega (arith, begun, start-from text c)) in
         let n : posts_here s.profile 170 ≡ posts_of_block m q = ap (λ (p : Profile). posts_here p 170) profile-so-far ∙ posts-next in
         (λ i. by (col i) (same-z i) (profile-so-far i) (n i) (byte_next i))
         ∙ block-verdict k (posts_of_block m q) (posts_byte q) block
-        (filling s k (column_in more 0) (read_so_far text more c) Stays (new_heights text more block k x some c here))
+        (filling s k (column_in more 0) (read_so_far text more c) (new_heights text more block k x some c here))
         ∙ ap
         (λ (bs : List Breach).
-        by_breach (first_broken bs) (filling s k (column_in more 0) (read_so_far text more c) Stays (new_heights text more block k x some c here)))
+        by_breach (first_broken bs) (filling s k (column_in more 0) (read_so_far text more c) (new_heights text more block k x some c here)))
         (sym rules-here)
 
   -- ---- a profile's first block
@@ -235,23 +234,21 @@ module _ (family : ℕ) (text more block : List ℕ) (k : ℕ) (x : Extends text
     pub opening-rules :
         opening (begun_session family text) k block (record_b family ((begun_session family text).closed + 1) block)
         ≡ by_breach (first_broken (in_block k (head_fault family (suc c) block) ∷ (block_rules more c 0 ++ place_rules more c)))
-        (filling (begun_session family text) k (column_in more 0) (read_so_far text more c)
-        (span_of (begun_session family text) (column_in more 0) (read_so_far text more c)) (new_heights text more block k x some c here))
+        (filling (begun_session family text) k (column_in more 0) (read_so_far text more c) (new_heights text more block k x some c here))
     opening-rules =
         let s = begun_session family text in
         let m = (head_in more c).posts in
         let hs = new_heights text more block k x some c here in
         let head = in_block k (head_fault family (suc c) block) in
-        let span = span_of s (column_in more 0) (read_so_far text more c) in
-        let fill = filling s k (column_in more 0) (read_so_far text more c) span hs in
+        let fill = filling s k (column_in more 0) (read_so_far text more c) hs in
         let n : (begun_session family text).closed + 1 ≡ suc c = ap (λ (a : ℕ). a + 1) closed-is-c ∙ (omega arith) in
-        let rows : filling s k (first_column s (head_of block)) (opened s (head_of block)) (span_of s (first_column s (head_of block)) (opened s (head_of block)))
+        let rows : filling s k (first_column s (head_of block)) (opened s (head_of block))
         (heights (z_of (header_in text)) (opened s (head_of block)).datum (posts_of (min (head_of block).posts 146) 145 block))
         ≡ fill
         = (λ i.
-        filling s k (column-first i) (profile-opened i) (span_of s (column-first i) (profile-opened i))
+        filling s k (column-first i) (profile-opened i)
         (heights (same-z i) (profile-opened i).datum (posts_of (min (head-here i).posts 146) 145 block)))
-        ∙ ap (filling s k (column_in more 0) (read_so_far text more c) span) heights-first in
+        ∙ ap (filling s k (column_in more 0) (read_so_far text more c)) heights-first in
         ap (λ (a : ℕ). opening s k block (record_b family a block)) n
         ∙ head-verdict (suc c)
         ∙ ap (by_breach head)

@@ -20,9 +20,7 @@ use Rattle.session.specs.Session.{busy, complete}
 use Rattle.session.specs.declared.Session.{Session}
 use Rattle.ground.specs.Posts.{filled_in}
 use Rattle.ground.specs.Extremes.{filled_only, least_of, greatest_of, sum_of}
-use Rattle.lent.specs.declared.Span.{Span}
-use Rattle.lent.specs.declared.Span.TheVariants.{Stays}
-use Rattle.delivery.specs.Deliver.{Verdict, span_of, fills, unless, later, further, opening, filling, next_cell, finished_session}
+use Rattle.delivery.specs.Deliver.{fills, unless, later, further, opening, filling, next_cell, finished_session}
 use Rattle.meaning.specs.Text.{header_in, profiles_in, start_of, column_in, number_on}
 use Rattle.meaning.specs.Rules.{Breach, breach, in_block, rule, when, first_broken, first_breach, sheet_rules, end_rules, block_rules, place_rules, end_of, blocks_of_sheet, is_complete}
 use Rattle.meaning.specs.Means.{closed_in, is_open, begun_session}
@@ -46,22 +44,14 @@ module _ (family : ℕ) (text more block : List ℕ) (k : ℕ) (x : Extends text
     idle-or-busy true e l = rw e
     idle-or-busy false e l = rw (e, l)
 
-    -- what the block says of the spans: a profile's first one alone says something
-    abbrev pub span_here : Span
-    span_here =
-        cond (ltb (start_of text c) k) Stays (span_of (begun_session family text) (column_in more 0) (read_so_far text more c))
-
     pub profile-verdict :
         later (begun_session family text) k block
         ≡ by_breach (first_breach family more)
-        (fills (begun_session family more) (next_cell (begun_session family text) (column_in more 0) (read_so_far text more c)) (new_heights text more block k x some c here)
-        span_here)
+        (fills (begun_session family more) (next_cell (begun_session family text) (column_in more 0) (read_so_far text more c)) (new_heights text more block k x some c here))
     profile-verdict =
         let s = begun_session family text in
-        let opens = span_of s (column_in more 0) (read_so_far text more c) in
-        let after : Span → Verdict
-        = fills (begun_session family more) (next_cell s (column_in more 0) (read_so_far text more c)) (new_heights text more block k x some c here) in
-        let by : Bool → Verdict = λ b. by_breach (first_breach family more) (after (cond b Stays opens)) in
+        let fill = filling s k (column_in more 0) (read_so_far text more c) (new_heights text more block k x some c here) in
+        let after = fills (begun_session family more) (next_cell s (column_in more 0) (read_so_far text more c)) (new_heights text more block k x some c here) in
         let n : ltb s.closed (profiles_in text) ≡ true
         = lt-ltb s.closed (profiles_in text) (omega (arith, closed-here family text more block k x some c here, here.below-n)) in
         by-test (ltb (start_of text c) k)
@@ -70,10 +60,9 @@ module _ (family : ℕ) (text more block : List ℕ) (k : ℕ) (x : Extends text
         let rules = block_rules more c (k - start_of text c) in
         idle-or-busy true (is-busy family text more block k x some c here lt) n
         ∙ further-rules family text more block k x some c here lt
-        ∙ ap (by_breach (first_broken rules)) (filling-rules family text more block k x some c here Stays)
-        ∙ sym (by_append rules (closing_due more c) (after Stays))
-        ∙ ap (λ (b : Breach). by_breach b (after Stays)) (sym (further-due family text more block k x some c here kept lt))
-        ∙ ap by (sym t))
+        ∙ ap (by_breach (first_broken rules)) (filling-rules family text more block k x some c here)
+        ∙ sym (by_append rules (closing_due more c) after)
+        ∙ ap (λ (b : Breach). by_breach b after) (sym (further-due family text more block k x some c here kept lt)))
         (λ t.
         let e : start_of text c ≡ k = omega (arith, ltb-false (start_of text c) k t, here.begins) in
         let head = in_block k (head_fault family (suc c) block) in
@@ -81,11 +70,10 @@ module _ (family : ℕ) (text more block : List ℕ) (k : ℕ) (x : Extends text
         let place = place_rules more c in
         idle-or-busy false (is-idle family text more block k x some c here e) n
         ∙ opening-rules family text more block k x some c here e
-        ∙ ap (by_breach (first_broken (head ∷ (first ++ place)))) (filling-rules family text more block k x some c here opens)
-        ∙ sym (by_append (head ∷ (first ++ place)) (closing_due more c) (after opens))
-        ∙ ap (λ (l : List Breach). by_breach (first_broken (head ∷ l)) (after opens)) (append-brackets first place (closing_due more c))
-        ∙ ap (λ (b : Breach). by_breach b (after opens)) (sym (opening-due family text more block k x some c here kept e))
-        ∙ ap by (sym t))
+        ∙ ap (by_breach (first_broken (head ∷ (first ++ place)))) (filling-rules family text more block k x some c here)
+        ∙ sym (by_append (head ∷ (first ++ place)) (closing_due more c) after)
+        ∙ ap (λ (l : List Breach). by_breach (first_broken (head ∷ l)) after) (append-brackets first place (closing_due more c))
+        ∙ ap (λ (b : Breach). by_breach b after) (sym (opening-due family text more block k x some c here kept e)))
 
   -- ---- record C
 
@@ -199,10 +187,10 @@ module _ (family : ℕ) (text more block : List ℕ) (k : ℕ) (x : Extends text
         absurd (omega (arith, b, less, behind, x.many)))
 
     pub finish-verdict : is_complete text ≡ false
-        → later (begun_session family text) k block ≡ by_breach (first_breach family more) (fills (begun_session family more) 0 [] Stays)
+        → later (begun_session family text) k block ≡ by_breach (first_breach family more) (fills (begun_session family more) 0 [])
     finish-verdict i =
         let d = due-now i in
-        let v = fills (begun_session family more) 0 [] Stays in
+        let v = fills (begun_session family more) 0 [] in
         let n : ltb (begun_session family text).closed (profiles_in text) ≡ false
         = le-ltb (begun_session family text).closed (profiles_in text) (omega (arith, all)) in
         let r : leb (suc k) (blocks_of_sheet text) ≡ true = le-leb (suc k) (blocks_of_sheet text) (omega (arith, d.1)) in
@@ -213,12 +201,12 @@ module _ (family : ℕ) (text more block : List ℕ) (k : ℕ) (x : Extends text
         first_broken (rule b (breach 4 (blocks_of_sheet text) 0) ∷ (in_block (end_of text) (record_c (block_at more (end_of text))) ∷ []))) r
         ∙ ap₂ (λ (b : ℕ) (l : List ℕ). first_broken (in_block b (record_c l) ∷ [])) d.0 (ap (block_at more) d.0 ∙ x.next) in
         idle-later n
-        ∙ ap (λ (s : Session). by_breach (in_block k (record_c block)) (fills s 0 [] Stays)) (session-finished d.0)
+        ∙ ap (λ (s : Session). by_breach (in_block k (record_c block)) (fills s 0 [])) (session-finished d.0)
         ∙ sym (by-cons (in_block k (record_c block)) [] v)
         ∙ ap (λ (b : Breach). by_breach b v) (sym e)
       where
         idle-later : ltb (begun_session family text).closed (profiles_in text) ≡ false
-            → later (begun_session family text) k block ≡ unless (record_c block) k (fills (finished_session (begun_session family text)) 0 [] Stays)
+            → later (begun_session family text) k block ≡ unless (record_c block) k (fills (finished_session (begun_session family text)) 0 [])
         idle-later n = rw (idle, n)
 
     pub complete-breach : is_complete text ≡ true → first_breach family more ≡ breach 4 k 0

@@ -4,13 +4,10 @@ pub mod Joined
 pub mod Counted
 pub mod SessionGrows
 pub mod Placed
-pub mod Fronts
 pub mod EachPost
 pub mod Weighing
 pub mod EachNumber
 pub mod GridGrows
-pub mod SpansGrow
-pub mod EachSpan
 pub mod Verdicts
 pub mod LaterBlocks
 pub mod RulesGrow

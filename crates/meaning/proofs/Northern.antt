@@ -17,7 +17,6 @@ use Rattle.frame.specs.declared.Header.{Header}
 use Rattle.heading.specs.Heading.{header_of}
 use Rattle.sheet.specs.RecordA.{record_of, canadian_front, usgs_front, back}
 use Rattle.session.specs.Session.{opened, sound}
-use Rattle.lent.specs.Lent.{room}
 use Rattle.delivery.specs.Deliver.{Verdict, verdict_of, begins, wrong}
 use Rattle.meaning.specs.PaperSheet.{blanks, field, times}
 
@@ -101,9 +100,9 @@ northern_header =
       profiles = 1201;
     }
 
--- block 0 delivered to a fresh session of a family, with so many cells and spans for 1,201 columns lent
+-- block 0 delivered to a fresh session of a family, with so many cells lent
 abbrev judged : ℕ → List ℕ → ℕ → Verdict
-judged family block cells = verdict_of (opened family) 0 block (room cells 2402)
+judged family block cells = verdict_of (opened family) 0 block (record { cells = cells })
 
 pub northern-begins : judged 1 northern_a 1442401 ≡ begins northern_header
 unfolding verdict_of sound record_of canadian_front back header_of lattice_of arc_seconds integer real billionths places short northern_by

@@ -1,4 +1,4 @@
--- One delivery to a desk whose session, grid and spans are what a text means: it is answered as the text says, and all three are then
+-- One delivery to a desk whose session and grid are what a text means: it is answered as the text says, and session and grid are then
 -- what the text with the block, if taken, means. The verdicts of LaterVerdict, test by test, carry it.
 use mathlib.Core.Bool.{true, Bool, false, cond, not}
 use mathlib.Core.List.{List, ◌++◌, []}
@@ -8,15 +8,15 @@ use lib.IntN.{ℤ}
 use lib.ListN.{length, drop, replicate, length-append}
 use native.Mathlib.Nat.{add_assoc}
 use native.Mathlib.Omega.{arith}
-use borrow.Author.Tests.{ltb-true, ltb-false, le-ltb, leb-true, eq-eqb, ne_eqb, eqb-true, eqb-false}
-use lib.Dec.{ltb, leb, eqb}
+use borrow.Author.Tests.{ltb-true, ltb-false, le-ltb, eq-eqb, ne_eqb, eqb-true, eqb-false}
+use lib.Dec.{ltb, eqb}
 use lib.Seq.{sets}
 use Rattle.ground.specs.Blocks.{blocks_in, block_at}
 use Rattle.ground.proofs.BlocksJoined.{Extends, join-extends}
 use Rattle.laws.specs.Family.{known}
-use Rattle.laws.proofs.Tests.{by-test, and_first, and_second, clash}
+use Rattle.laws.proofs.Tests.{by-test}
 use Rattle.laws.proofs.Lists.{append-nil, joined-empty}
-use Rattle.frame.specs.Frame.{rows_of, columns_of, cells_of}
+use Rattle.frame.specs.Frame.{rows_of, cells_of}
 use Rattle.frame.specs.declared.Header.{Header}
 use Rattle.heading.specs.Heading.{header_of}
 use Rattle.sheet.specs.RecordA.{fault_of, record_of}
@@ -25,60 +25,43 @@ use Rattle.session.proofs.Sound.{opened-sound}
 use Rattle.session.specs.declared.Session.{Session}
 use Rattle.ground.specs.Posts.{void, filled_in}
 use Rattle.ground.specs.Extremes.{filled_only, least_of, greatest_of, sum_of}
-use Rattle.lent.specs.Lent.{Lent, Room, lend, room, room_of, enough, too_short, numbers_of, with_span}
-use Rattle.lent.specs.declared.Span.{Span}
-use Rattle.lent.specs.declared.Span.TheVariants.{Stays}
-use Rattle.delivery.specs.Deliver.{Verdict, answer_of, lent_by, again, wrong, begins, fills, beginning, later, next_cell, verdict_of, deliver_of}
+use Rattle.delivery.specs.Deliver.{Verdict, Room, lend, room_of, too_short, answer_of, lent_by, again, wrong, begins, fills, beginning, later, next_cell, verdict_of, deliver_of}
 use Rattle.delivery.specs.declared.Answer.{Answer}
 use Rattle.delivery.specs.declared.Answer.TheVariants.{Taken, Held, Refused}
 use Rattle.delivery.specs.declared.Delivered.{Delivered}
 use Rattle.delivery.proofs.SoundOut.{sound-out}
-use Rattle.meaning.specs.Text.{cells_in, columns_in, header_in, profiles_in, rows_in, start_of, posts_in, heights_in, all_heights, column_in, row_in, cell_of_post}
+use Rattle.meaning.specs.Text.{cells_in, header_in, profiles_in, rows_in, start_of, posts_in, heights_in, all_heights, column_in, row_in, cell_of_post}
 use Rattle.meaning.specs.Rules.{first_breach, Breach, is_complete, in_block, end_of}
-use Rattle.meaning.specs.Means.{session_of, grid_of, spans_of, span_number, closed_in, is_open, begun_session}
+use Rattle.meaning.specs.Means.{session_of, grid_of, closed_in, is_open, begun_session}
 use Rattle.meaning.specs.Deliveries.{bytes_if, refused_by, answer_to, Delivery}
 use Rattle.meaning.proofs.Desks.{Desk, at_first, answered, after}
 use Rattle.meaning.proofs.Starts.{next_start, start-from, none_yet, closed_is}
-use Rattle.meaning.proofs.Joined.{Here, header-same, same_start, new_heights}
+use Rattle.meaning.proofs.Joined.{header-same, same_start, new_heights}
 use Rattle.meaning.proofs.SessionGrows.{read_so_far}
 use Rattle.meaning.proofs.Verdicts.{by_breach}
 use Rattle.meaning.proofs.Placed.{placed_at}
 use Rattle.meaning.proofs.EachPost.{length-kept}
 use Rattle.meaning.proofs.RulesGrow.{first-due-broken, first-due-kept}
 use Rattle.meaning.proofs.GridGrows.{grid-grows, grid-idle, grid-begun}
-use Rattle.meaning.proofs.SpansGrow.{spans-begun, spans-idle, spans-further, spans-open}
-use Rattle.meaning.proofs.Fronts as Fronts
-use Rattle.meaning.proofs.LaterVerdict.{span_here, profile-verdict, finish-verdict, here-now, all-now, complete-is, behind}
+use Rattle.meaning.proofs.LaterVerdict.{profile-verdict, finish-verdict, here-now, all-now, complete-is, behind}
 
--- long enough means both
-pub long-enough : (r : Room) (h : Header) → too_short r h ≡ false → (cells_of h ≤ r.cells) × (numbers_of h ≤ r.numbers)
-long-enough r h e =
-    let t : enough r h ≡ true = by-test (enough r h) (λ q. q) (λ q. clash (rw q at e)) in
-    (leb-true (cells_of h) r.cells (and_first (leb (cells_of h) r.cells) _ t), leb-true (numbers_of h) r.numbers (and_second (leb (cells_of h) r.cells) _ t))
-
--- whole blocks that break no rule, in a grid and spans long enough for their sheet; the session that they mean is sound
-pub record Good (family : ℕ) (text : List ℕ) (lent : Lent) : Type 0 where
+-- whole blocks that break no rule, in a grid long enough for their sheet; the session that they mean is sound
+pub record Good (family : ℕ) (text : List ℕ) (lent : List ℤ) : Type 0 where
   pub whole : length text ≡ 1024 * blocks_in text
   pub kept : 1 ≤ blocks_in text → (first_breach family text).kind ≡ 0
-  pub room : 1 ≤ blocks_in text → cells_in text ≤ length lent.grid
-  pub numbers : 1 ≤ blocks_in text → 2 * columns_in text ≤ length lent.spans
+  pub room : 1 ≤ blocks_in text → cells_in text ≤ length lent
   pub sound-is : sound (session_of family text) ≡ true
 
--- grid and spans of a text
-abbrev pub meant : List ℕ → Lent → Lent
-meant text lent = lend (grid_of text lent.grid) (spans_of text lent.spans)
-
 -- what a verdict and an answer have to do with each other, for a block delivered after a text
-record Fits (family : ℕ) (text : List ℕ) (lent : Lent) (block : List ℕ) (v : Verdict) (a : Answer) : Type 0 where
+record Fits (family : ℕ) (text : List ℕ) (lent : List ℤ) (block : List ℕ) (v : Verdict) (a : Answer) : Type 0 where
   answer-is : (answer_of (session_of family text) v).answer ≡ a
   session-is : (answer_of (session_of family text) v).session ≡ session_of family (text ++ bytes_if a block)
-  lent_is : lent_by (meant text lent) v ≡ meant (text ++ bytes_if a block) lent
+  grid-is : (lent_by (lend (grid_of text lent)) v).grid ≡ grid_of (text ++ bytes_if a block) lent
   whole_is : length (text ++ bytes_if a block) ≡ 1024 * blocks_in (text ++ bytes_if a block)
   kept-is : 1 ≤ blocks_in (text ++ bytes_if a block) → (first_breach family (text ++ bytes_if a block)).kind ≡ 0
-  room-is : 1 ≤ blocks_in (text ++ bytes_if a block) → cells_in (text ++ bytes_if a block) ≤ length lent.grid
-  numbers-is : 1 ≤ blocks_in (text ++ bytes_if a block) → 2 * columns_in (text ++ bytes_if a block) ≤ length lent.spans
+  room-is : 1 ≤ blocks_in (text ++ bytes_if a block) → cells_in (text ++ bytes_if a block) ≤ length lent
 
-module _ (family : ℕ) (text : List ℕ) (lent : Lent) (block : List ℕ) where
+module _ (family : ℕ) (text : List ℕ) (lent : List ℤ) (block : List ℕ) where
   family-is : (session_of family text).family ≡ family
   family-is = by-test (eqb (blocks_in text) 0) (λ e. rw e) (λ e. rw e)
 
@@ -92,17 +75,16 @@ module _ (family : ℕ) (text : List ℕ) (lent : Lent) (block : List ℕ) where
 
   module _ (good : Good family text lent) where
     nothing : (a : Answer) → bytes_if a block ≡ [] → (v : Verdict) → answer_of (session_of family text) v ≡ record { answer = a; session = session_of family text }
-        → lent_by (meant text lent) v ≡ meant text lent → Fits family text lent block v a
+        → (lent_by (lend (grid_of text lent)) v).grid ≡ grid_of text lent → Fits family text lent block v a
     nothing a none v e g =
         let t : text ++ bytes_if a block ≡ text = ap (λ (l : List ℕ). text ++ l) none ∙ append-nil text in
         record {
           answer-is = ap (λ d. d.answer) e;
           session-is = ap (λ d. d.session) e ∙ ap (session_of family) (sym t);
-          lent_is = g ∙ ap (λ (l : List ℕ). meant l lent) (sym t);
+          grid-is = g ∙ ap (λ (l : List ℕ). grid_of l lent) (sym t);
           whole_is = rw t good.whole;
           kept-is = λ some. rw t (good.kept (rw t at some));
           room-is = λ some. rw t (good.room (rw t at some));
-          numbers-is = λ some. rw t (good.numbers (rw t at some));
         }
 
     refused : (kind number byte : ℕ) → Fits family text lent block (wrong kind number byte) (Refused kind number byte)
@@ -129,7 +111,7 @@ module _ (family : ℕ) (text : List ℕ) (lent : Lent) (block : List ℕ) where
       -- ---- block 0
 
       module _ (none : blocks_in text ≡ 0) where
-        text-lent : meant text lent ≡ lent
+        text-lent : grid_of text lent ≡ lent
         text-lent = let e : eqb (blocks_in text) 0 ≡ true = eq-eqb (blocks_in text) 0 none in rw e
 
         this-block : block_at (text ++ block) 0 ≡ block
@@ -180,32 +162,30 @@ module _ (family : ℕ) (text : List ℕ) (lent : Lent) (block : List ℕ) where
         unfolding record_of
         begin-verdict m = by-test (eqb (fault_of family block).kind 0) (λ e. rw e) (λ e. rw e)
 
-        begin-fits : Fits family text lent block (beginning (room_of lent) (record_of family block))
-            (refused_by (first_breach family (text ++ block)) (cond (too_short (room_of lent) (header_in (text ++ block))) (Refused 12 0 0) Taken))
+        begin-fits : Fits family text lent block (beginning (room_of (lend lent)) (record_of family block))
+            (refused_by (first_breach family (text ++ block)) (cond (ltb (length lent) (cells_in (text ++ block))) (Refused 12 0 0) Taken))
         begin-fits =
             let more = text ++ block in
-            let short : too_short (room_of lent) (header_of block) ≡ too_short (room_of lent) (header_in more) = ap (too_short (room_of lent)) header-here in
-            same-fits (begin-verdict (room_of lent)) refl
+            let same : cells_of (header_of block) ≡ cells_in more = ap cells_of header-here in
+            let short : ltb (length lent) (cells_of (header_of block)) ≡ ltb (length lent) (cells_in more) = ap (ltb (length lent)) same in
+            same-fits (begin-verdict (room_of (lend lent))) refl
             (by-test (eqb (fault_of family block).kind 0)
             (λ e.
             let z = eqb-true (fault_of family block).kind 0 e in
             let kept = first-due-kept family text more block (blocks_in text) joins none z in
             let k : eqb (first_breach family more).kind 0 ≡ true = eq-eqb (first_breach family more).kind 0 kept in
             rw (e, k, short)
-            (pick (too_short (room_of lent) (header_in more)) (λ s. refused 12 0 0)
+            (pick (ltb (length lent) (cells_in more)) (λ s. refused 12 0 0)
             (λ s.
-            let r = long-enough (room_of lent) (header_in more) s in
             record {
               answer-is = refl;
               session-is = ap (λ (n : ℕ). begun n (header_of block)) family-is ∙ begun-is;
-              lent_is =
-                  ap₂ (λ (h : Header) (l : Lent). lent_by l (begins h)) header-here text-lent
-                  ∙ ap₂ lend (grid-begun family text more block (blocks_in text) joins none lent.grid)
-                  (spans-begun family text more block (blocks_in text) joins none lent.spans);
+              grid-is =
+                  ap₂ (λ (n : ℕ) (g : List ℤ). replicate n void ++ drop n g) same text-lent
+                  ∙ grid-begun family text more block (blocks_in text) joins none lent;
               whole_is = whole-more;
               kept-is = λ q. kept;
-              room-is = λ q. r.0;
-              numbers-is = λ q. r.1;
+              room-is = λ q. ltb-false (length lent) (cells_in more) s;
             })))
             (λ e.
             let bad = eqb-false (fault_of family block).kind 0 e in
@@ -219,43 +199,20 @@ module _ (family : ℕ) (text : List ℕ) (lent : Lent) (block : List ℕ) where
         text-begun =
             let e : eqb (blocks_in text) 0 ≡ false = ne_eqb (blocks_in text) 0 (λ z. omega (arith, z, some)) in rw e
 
-        same-header : header_in (text ++ block) ≡ header_in text
-        same-header = header-same text (text ++ block) block (blocks_in text) joins some
-
         same-cells : cells_in (text ++ block) ≡ cells_in text
-        same-cells = ap cells_of same-header
+        same-cells = ap cells_of (header-same text (text ++ block) block (blocks_in text) joins some)
 
-        same-columns : columns_in (text ++ block) ≡ columns_in text
-        same-columns = ap columns_of same-header
-
-        taken_as : (at : ℕ) (hs : List ℤ) (span : Span) → (first_breach family (text ++ block)).kind ≡ 0
-            → sets (grid_of text lent.grid) at hs ≡ grid_of (text ++ block) lent.grid
-            → with_span span (spans_of text lent.spans) ≡ spans_of (text ++ block) lent.spans
-            → Fits family text lent block (fills (begun_session family (text ++ block)) at hs span) Taken
-        taken_as at hs span kept g n =
+        taken_as : (at : ℕ) (hs : List ℤ) → (first_breach family (text ++ block)).kind ≡ 0 → sets (grid_of text lent) at hs ≡ grid_of (text ++ block) lent
+            → Fits family text lent block (fills (begun_session family (text ++ block)) at hs) Taken
+        taken_as at hs kept g =
             record {
               answer-is = refl;
               session-is = sym more-begun;
-              lent_is = ap₂ lend g n;
+              grid-is = g;
               whole_is = whole-more;
               kept-is = λ q. kept;
               room-is = λ q. omega (arith, same-cells, good.room some);
-              numbers-is = λ q. omega (arith, same-columns, good.numbers some);
             }
-
-        -- the spans with a block of profile c: its first one writes them
-        spans-with : (first_breach family (text ++ block)).kind ≡ 0 → (here : Here text (blocks_in text) (closed_in text))
-            → with_span (span_here family text (text ++ block) block (blocks_in text) joins some (good.kept some) (closed_in text) here) (spans_of text lent.spans)
-            ≡ spans_of (text ++ block) lent.spans
-        spans-with kept here =
-            let k = blocks_in text in
-            let more = text ++ block in
-            let c = closed_in text in
-            by-test (ltb (start_of text c) k)
-            (λ t. rw t (spans-further family text more block k joins some c here (ltb-true (start_of text c) k t) lent.spans))
-            (λ t.
-            let e : start_of text c ≡ k = omega (arith, ltb-false (start_of text c) k t, here.begins) in
-            rw t (spans-open family text more block k joins some c here e kept lent.spans (omega (arith, same-columns, good.numbers some))))
 
         later-fits : is_complete text ≡ false → Fits family text lent block (later (begun_session family text) (blocks_in text) block) (refused_by (first_breach family (text ++ block)) Taken)
         later-fits i =
@@ -279,18 +236,15 @@ module _ (family : ℕ) (text : List ℕ) (lent : Lent) (block : List ℕ) where
             let e : at ≡ cell_of_post more c (posts_in text c)
             = ap₂ (λ (a : ℕ) (r : ℕ). a * r + row_in more c + posts_in text c) (sym p.column) (ap rows_of (sym h))
             ∙ add_assoc (column_in more c * rows_in more) (row_in more c) (posts_in text c) in
-            taken_as at hs (span_here family text more block k x some (good.kept some) c here) kept
-            (ap (λ (a : ℕ). sets (grid_of text lent.grid) a hs) e
-            ∙ grid-grows family text more block k x some c here kept lent.grid (omega (arith, same-cells, good.room some)))
-            (spans-with kept here))))
+            taken_as at hs kept
+            (ap (λ (a : ℕ). sets (grid_of text lent) a hs) e
+            ∙ grid-grows family text more block k x some c here kept lent (omega (arith, same-cells, good.room some))))))
             (λ t.
             let all = all-now family text more block k x some (good.kept some) (λ lt. omega (arith, lt, ltb-false (closed_in text) (profiles_in text) t)) in
             same-fits (finish-verdict family text more block k x some (good.kept some) all i) refl
             (by-breach (first_breach family more)
             (λ kept.
-            let over = behind family text more block k x some (good.kept some) all in
-            taken_as 0 [] Stays kept (sym (grid-idle family text more block k x some over lent.grid))
-            (spans-idle family text more block k x some over lent.spans))))
+            taken_as 0 [] kept (sym (grid-idle family text more block k x some (behind family text more block k x some (good.kept some) all) lent)))))
 
   -- ---- any delivery
 
@@ -299,12 +253,12 @@ module _ (family : ℕ) (text : List ℕ) (lent : Lent) (block : List ℕ) where
 
   -- a block of 1,024 bytes, past the first two tests
   past_two : Good family text lent → (number : ℕ) → eqb (length block) 1024 ≡ true
-      → verdict_of (session_of family text) number block (room_of lent)
+      → verdict_of (session_of family text) number block (room_of (lend lent))
       ≡ cond (ltb number (blocks_in text)) again
       (cond (ltb (blocks_in text) number) (wrong 3 number 0)
-      (cond (eqb number 0) (beginning (room_of lent) (record_of family block))
+      (cond (eqb number 0) (beginning (room_of (lend lent)) (record_of family block))
       (cond (complete (session_of family text)) (wrong 4 number 0)
-      (cond (too_short (room_of lent) (session_of family text).header) (wrong 12 number 0) (later (session_of family text) number block)))))
+      (cond (ltb (length lent) (cells_of (session_of family text).header)) (wrong 12 number 0) (later (session_of family text) number block)))))
   unfolding verdict_of
   past_two good number l =
       let s = session_of family text in
@@ -313,43 +267,43 @@ module _ (family : ℕ) (text : List ℕ) (lent : Lent) (block : List ℕ) where
       (cond (not (good.sound-is i)) (wrong 2 number 0)
       (cond (ltb number (taken_is i)) again
       (cond (ltb (taken_is i) number) (wrong 3 number 0)
-      (cond (eqb number 0) (beginning (room_of lent) (record_of (family-is i) block))
+      (cond (eqb number 0) (beginning (room_of (lend lent)) (record_of (family-is i) block))
       (cond (complete s) (wrong 4 number 0)
-      (cond (too_short (room_of lent) s.header) (wrong 12 number 0) (later s number block)))))))
+      (cond (ltb (length lent) (cells_of s.header)) (wrong 12 number 0) (later s number block)))))))
 
   wrong-length : (number : ℕ) → eqb (length block) 1024 ≡ false
-      → verdict_of (session_of family text) number block (room_of lent) ≡ wrong 1 number 0
+      → verdict_of (session_of family text) number block (room_of (lend lent)) ≡ wrong 1 number 0
   unfolding verdict_of
   wrong-length number l = rw l
 
   next_fits : (good : Good family text lent) (one : length block ≡ 1024) (some : 1 ≤ blocks_in text) (number : ℕ) → number ≡ blocks_in text
       → Fits family text lent block
       (cond (complete (session_of family text)) (wrong 4 number 0)
-      (cond (too_short (room_of lent) (session_of family text).header) (wrong 12 number 0) (later (session_of family text) number block)))
+      (cond (ltb (length lent) (cells_of (session_of family text).header)) (wrong 12 number 0) (later (session_of family text) number block)))
       (cond (is_complete text) (Refused 4 number 0)
-      (cond (too_short (room_of lent) (header_in (text ++ block))) (Refused 12 number 0) (refused_by (first_breach family (text ++ block)) Taken)))
+      (cond (ltb (length lent) (cells_in (text ++ block))) (Refused 12 number 0) (refused_by (first_breach family (text ++ block)) Taken)))
   next_fits good one some number e =
       let more = text ++ block in
       let begun = text-begun good one some in
       let c : complete (session_of family text) ≡ is_complete text
       = ap complete begun ∙ complete-is family text more block (blocks_in text) (joins good one) some (good.kept some) in
-      let s : (session_of family text).header ≡ header_in more
-      = ap (λ (w : Session). w.header) begun ∙ sym (same-header good one some) in
+      let s : cells_of (session_of family text).header ≡ cells_in more
+      = ap (λ (w : Session). cells_of w.header) begun ∙ sym (same-cells good one some) in
       same-fits
       (ap₂
-      (λ (a : Bool) (h : Header).
-      cond a (wrong 4 number 0) (cond (too_short (room_of lent) h) (wrong 12 number 0) (later (session_of family text) number block))) c s)
+      (λ (a : Bool) (n : ℕ).
+      cond a (wrong 4 number 0) (cond (ltb (length lent) n) (wrong 12 number 0) (later (session_of family text) number block))) c s)
       refl
       (pick (is_complete text) (λ q. refused good 4 number 0)
       (λ q.
-      pick (too_short (room_of lent) (header_in more)) (λ r. refused good 12 number 0)
+      pick (ltb (length lent) (cells_in more)) (λ r. refused good 12 number 0)
       (λ r. same-fits (ap₂ (λ (w : Session) (m : ℕ). later w m block) begun e) refl (later-fits good one some q))))
 
   verdict-fits : Good family text lent → (number : ℕ)
-      → Fits family text lent block (verdict_of (session_of family text) number block (room_of lent)) (answer_to family text number block (room_of lent))
+      → Fits family text lent block (verdict_of (session_of family text) number block (room_of (lend lent))) (answer_to family text number block (room_of (lend lent)))
   verdict-fits good number =
       let broken = first_breach family (text ++ block) in
-      let short = too_short (room_of lent) (header_in (text ++ block)) in
+      let short = ltb (length lent) (cells_in (text ++ block)) in
       let rest = cond (ltb number (blocks_in text)) Held
       (cond (ltb (blocks_in text) number) (Refused 3 number 0)
       (cond (eqb number 0) (refused_by broken (cond short (Refused 12 0 0) Taken))
@@ -367,49 +321,36 @@ module _ (family : ℕ) (text : List ℕ) (lent : Lent) (block : List ℕ) where
       (λ z. let n = eqb-false number 0 z in next_fits good one (omega (arith, n, e)) number e)))))
       (λ l. same-fits (wrong-length number l) (λ i. cond (not (l i)) (Refused 1 number 0) rest) (refused good 1 number 0))
 
--- ---- a desk whose session, grid and spans are what a text means
+-- ---- a desk whose session and grid are what a text means
 
-pub record Stands (family : ℕ) (text : List ℕ) (lent : Lent) (k : Desk) : Type 0 where
+pub record Stands (family : ℕ) (text : List ℕ) (lent : List ℤ) (k : Desk) : Type 0 where
   pub good : Good family text lent
   pub session-is : k.session ≡ session_of family text
-  pub lent_is : k.lent ≡ meant text lent
+  pub grid-is : k.lent.grid ≡ grid_of text lent
 
-pub stands-first : (family : ℕ) → known family ≡ true → (lent : Lent) → Stands family [] lent (at_first family lent)
+pub stands-first : (family : ℕ) → known family ≡ true → (lent : List ℤ) → Stands family [] lent (at_first family lent)
 stands-first family known lent =
     record {
-      good =
-          record {
-            whole = refl;
-            kept = λ q. absurd (omega (arith, q));
-            room = λ q. absurd (omega (arith, q));
-            numbers = λ q. absurd (omega (arith, q));
-            sound-is = opened-sound family known;
-          };
+      good = record { whole = refl; kept = λ q. absurd (omega (arith, q)); room = λ q. absurd (omega (arith, q)); sound-is = opened-sound family known };
       session-is = refl;
-      lent_is = refl;
+      grid-is = refl;
     }
 
--- grid and spans are as long as lent
-pub same-room : (family : ℕ) (text : List ℕ) (lent : Lent) → Good family text lent → room_of (meant text lent) ≡ room_of lent
-same-room family text lent good =
-    ap₂ room (length-kept text lent.grid good.room)
-    (Fronts.length-kept (blocks_in text) (span_number text) (2 * columns_in text) lent.spans good.numbers)
-
-module _ (family : ℕ) (text : List ℕ) (lent : Lent) (k : Desk) (at : Stands family text lent k) (d : Delivery) where
-  fit : Fits family text lent d.bytes (verdict_of (session_of family text) d.number d.bytes (room_of lent)) (answer_to family text d.number d.bytes (room_of lent))
+module _ (family : ℕ) (text : List ℕ) (lent : List ℤ) (k : Desk) (at : Stands family text lent k) (d : Delivery) where
+  fit : Fits family text lent d.bytes (verdict_of (session_of family text) d.number d.bytes (room_of (lend lent))) (answer_to family text d.number d.bytes (room_of (lend lent)))
   fit = verdict-fits family text lent d.bytes at.good d.number
 
   same-verdict : verdict_of k.session d.number d.bytes (room_of k.lent)
-      ≡ verdict_of (session_of family text) d.number d.bytes (room_of lent)
+      ≡ verdict_of (session_of family text) d.number d.bytes (room_of (lend lent))
   same-verdict =
-      ap₂ (λ (s : Session) (r : Room). verdict_of s d.number d.bytes r) at.session-is
-      (ap room_of at.lent_is ∙ same-room family text lent at.good)
+      ap₂ (λ (s : Session) (n : ℕ). verdict_of s d.number d.bytes (record { cells = n })) at.session-is
+      (ap length at.grid-is ∙ length-kept text lent at.good.room)
 
   told : deliver_of k.session d.number d.bytes k.lent
-      ≡ answer_of (session_of family text) (verdict_of (session_of family text) d.number d.bytes (room_of lent))
+      ≡ answer_of (session_of family text) (verdict_of (session_of family text) d.number d.bytes (room_of (lend lent)))
   told = ap₂ answer_of at.session-is same-verdict
 
-  pub answer-told : answered k d ≡ answer_to family text d.number d.bytes (room_of lent)
+  pub answer-told : answered k d ≡ answer_to family text d.number d.bytes (room_of (lend lent))
   answer-told = ap (λ (w : Delivered). w.answer) told ∙ fit.answer-is
 
   session-told : (after k d).session ≡ session_of family (text ++ bytes_if (answered k d) d.bytes)
@@ -419,23 +360,22 @@ module _ (family : ℕ) (text : List ℕ) (lent : Lent) (k : Desk) (at : Stands 
 
   pub stands-next : Stands family (text ++ bytes_if (answered k d) d.bytes) lent (after k d)
   stands-next =
-      let e : answer_to family text d.number d.bytes (room_of lent) ≡ answered k d = sym answer-told in
+      let e : answer_to family text d.number d.bytes (room_of (lend lent)) ≡ answered k d = sym answer-told in
       record {
         good =
             record {
               whole = rw (← e) fit.whole_is;
               kept = rw (← e) fit.kept-is;
               room = rw (← e) fit.room-is;
-              numbers = rw (← e) fit.numbers-is;
               sound-is =
                   ap sound (sym session-told)
                   ∙ sound-out k.session d.number d.bytes k.lent (ap sound at.session-is ∙ at.good.sound-is);
             };
         session-is = session-told;
-        lent_is =
-            ap₂ lent_by at.lent_is same-verdict
-            ∙ fit.lent_is
-            ∙ ap (λ (a : Answer). meant (text ++ bytes_if a d.bytes) lent) e;
+        grid-is =
+            ap₂ (λ (g : List ℤ) (v : Verdict). (lent_by (lend g) v).grid) at.grid-is same-verdict
+            ∙ fit.grid-is
+            ∙ ap (λ (a : Answer). grid_of (text ++ bytes_if a d.bytes) lent) e;
       }
 
 -- what is not taken changes nothing, whatever the desk
@@ -447,4 +387,4 @@ not-taken-nothing k d not = go (verdict_of k.session d.number d.bytes (room_of k
     go again n = refl
     go (wrong kind block byte) n = refl
     go (begins h) n = absurd (n refl)
-    go (fills s at hs span) n = absurd (n refl)
+    go (fills s at hs) n = absurd (n refl)

@@ -1,11 +1,12 @@
 -- Lists of deliveries: what stands after each, by induction on the list; and when a delivery is taken, read off what it is answered.
-use Prim.Native.Nat.{ℕ, ◌*◌, ◌≤◌, ◌<◌, suc}
+use Prim.Native.Nat.{ℕ, ◌≤◌, ◌<◌, suc}
 use mathlib.Core.Path.{◌≡◌, ap, sym, ◌∙◌, refl}
 use native.Mathlib.Omega.{arith}
 use mathlib.Core.Bool.{true, false, Bool, cond, not}
 use mathlib.Core.List.{List, ◌++◌, [], ◌∷◌}
+use lib.IntN.{ℤ}
 use lib.ListN.{length}
-use borrow.Author.Tests.{ltb-false, le-ltb, le-leb, eq-eqb, eqb-true, eqb-false}
+use borrow.Author.Tests.{ltb-false, le-ltb, eq-eqb, eqb-true, eqb-false}
 use lib.Dec.{ltb, eqb}
 use Rattle.laws.specs.Family.{known}
 use Rattle.ground.specs.Blocks.{blocks_in}
@@ -14,14 +15,14 @@ use Rattle.laws.proofs.Tests.{clash, by-test}
 use Rattle.laws.proofs.Lists.{append-nil, append-brackets}
 use Rattle.delivery.specs.declared.Answer.{Answer}
 use Rattle.delivery.specs.declared.Answer.TheVariants.{Taken, Held, Refused}
-use Rattle.lent.specs.Lent.{Lent, room_of, too_short}
-use Rattle.meaning.specs.Text.{header_in, cells_in, columns_in}
+use Rattle.delivery.specs.Deliver.{Lent, lend, room_of}
+use Rattle.meaning.specs.Text.{cells_in}
 use Rattle.meaning.specs.Rules.{Breach, breach, first_breach, is_complete}
 use Rattle.session.specs.declared.Session.{Session}
 use Rattle.meaning.specs.Deliveries.{Delivery, Due, refused_by, answer_to, Call, Calls, no_call, called, deliveries, Disturbed, ended, sent, disturbed, bytes_if, twice}
 use Rattle.meaning.proofs.Desks.{Desk, desk, at_first, answered, after, after_all, text_after, call-desk, call-answer}
 use Rattle.meaning.proofs.LaterVerdict.{complete-breach, all-now, incomplete}
-use Rattle.meaning.proofs.OneDelivery.{long-enough, Good, Stands, stands-first, stands-next, answer-told, not-taken-nothing}
+use Rattle.meaning.proofs.OneDelivery.{Good, Stands, stands-first, stands-next, answer-told, not-taken-nothing}
 
 -- ---- answers told apart
 
@@ -40,7 +41,7 @@ not-refused kind block byte e = let z : ◌≡◌ {A = ℕ} 2 0 = ap code_of e i
 
 -- ---- a complete sheet takes no block
 
-module _ (family : ℕ) (text : List ℕ) (lent : Lent) (good : Good family text lent) (block : List ℕ) (one : length block ≡ 1024) (some : 1 ≤ blocks_in text) where
+module _ (family : ℕ) (text : List ℕ) (lent : List ℤ) (good : Good family text lent) (block : List ℕ) (one : length block ≡ 1024) (some : 1 ≤ blocks_in text) where
   joins : Extends text (text ++ block) block (blocks_in text)
   joins = join-extends text block (blocks_in text) good.whole one
 
@@ -59,20 +60,16 @@ module _ (family : ℕ) (text : List ℕ) (lent : Lent) (good : Good family text
 
 -- ---- taken exactly when
 
-module _ (family : ℕ) (text : List ℕ) (lent : Lent) (good : Good family text lent) (d : Delivery) where
+module _ (family : ℕ) (text : List ℕ) (lent : List ℤ) (good : Good family text lent) (d : Delivery) where
   abbrev broken : Breach
   broken = first_breach family (text ++ d.bytes)
 
   abbrev short : Bool
-  short = too_short (room_of lent) (header_in (text ++ d.bytes))
-
-  -- grid and spans are long enough, as numbers and as the test
-  roomy : cells_in (text ++ d.bytes) ≤ length lent.grid → 2 * columns_in (text ++ d.bytes) ≤ length lent.spans → short ≡ false
-  roomy cells numbers = rw (le-leb (cells_in (text ++ d.bytes)) (length lent.grid) cells, le-leb (2 * columns_in (text ++ d.bytes)) (length lent.spans) numbers)
+  short = ltb (length lent) (cells_in (text ++ d.bytes))
 
   -- past the tests of length and number
   next-number : length d.bytes ≡ 1024 → d.number ≡ blocks_in text
-      → answer_to family text d.number d.bytes (room_of lent)
+      → answer_to family text d.number d.bytes (room_of (lend lent))
       ≡ cond (eqb d.number 0) (refused_by broken (cond short (Refused 12 0 0) Taken))
       (cond (is_complete text) (Refused 4 d.number 0) (cond short (Refused 12 d.number 0) (refused_by broken Taken)))
   next-number one e =
@@ -83,10 +80,10 @@ module _ (family : ℕ) (text : List ℕ) (lent : Lent) (good : Good family text
       (cond (is_complete text) (Refused 4 d.number 0) (cond short (Refused 12 d.number 0) (refused_by broken Taken))) in
       λ i. cond (not (l i)) (Refused 1 d.number 0) (cond (a i) Held (cond (b i) (Refused 3 d.number 0) rest))
 
-  pub due-taken : Due family text lent d → answer_to family text d.number d.bytes (room_of lent) ≡ Taken
+  pub due-taken : Due family text lent d → answer_to family text d.number d.bytes (room_of (lend lent)) ≡ Taken
   due-taken due =
       let k : eqb broken.kind 0 ≡ true = eq-eqb broken.kind 0 due.kept in
-      let s : short ≡ false = roomy due.room due.numbers in
+      let s : short ≡ false = le-ltb (length lent) (cells_in (text ++ d.bytes)) due.room in
       next-number due.block due.next
       ∙ by-test (eqb d.number 0)
       (λ z. λ i. cond (z i) (cond (k i) (cond (s i) (Refused 12 0 0) Taken) (Refused broken.kind broken.block broken.byte))
@@ -110,7 +107,7 @@ module _ (family : ℕ) (text : List ℕ) (lent : Lent) (good : Good family text
       go true z = (eqb-true b.kind 0 z, rw z at e)
       go false z = not-refused b.kind b.block b.byte (rw z at e)
 
-  pub taken-due : answer_to family text d.number d.bytes (room_of lent) ≡ Taken → Due family text lent d
+  pub taken-due : answer_to family text d.number d.bytes (room_of (lend lent)) ≡ Taken → Due family text lent d
   taken-due e =
       by-test (eqb (length d.bytes) 1024)
       (λ l.
@@ -129,15 +126,13 @@ module _ (family : ℕ) (text : List ℕ) (lent : Lent) (good : Good family text
       = sym (λ i. cond (z i) (refused_by broken (cond short (Refused 12 0 0) Taken)) past_first) ∙ f in
       let p = past-breach broken g in
       let q = past short 12 0 0 p.1 in
-      let r = long-enough (room_of lent) (header_in (text ++ d.bytes)) q.0 in
-      record { next = n; block = one; kept = p.0; room = r.0; numbers = r.1 })
+      record { next = n; block = one; kept = p.0; room = ltb-false (length lent) (cells_in (text ++ d.bytes)) q.0 })
       (λ z.
       let g : past_first ≡ Taken = sym (λ i. cond (z i) (refused_by broken (cond short (Refused 12 0 0) Taken)) past_first) ∙ f in
       let c = past (is_complete text) 4 d.number 0 g in
       let q = past short 12 d.number 0 c.1 in
       let p = past-breach broken q.1 in
-      let r = long-enough (room_of lent) (header_in (text ++ d.bytes)) q.0 in
-      record { next = n; block = one; kept = p.0; room = r.0; numbers = r.1 }))))
+      record { next = n; block = one; kept = p.0; room = ltb-false (length lent) (cells_in (text ++ d.bytes)) q.0 }))))
       (λ l. not-refused 1 d.number 0 (sym (λ i. cond (not (l i)) (Refused 1 d.number 0) later-part) ∙ e))
     where
       past_first : Answer
@@ -153,15 +148,14 @@ module _ (family : ℕ) (text : List ℕ) (lent : Lent) (good : Good family text
       later-part = cond (ltb d.number (blocks_in text)) Held third-part
 
   -- a number that is not the next is not taken
-  pub late-not-taken : d.number < blocks_in text → answer_to family text d.number d.bytes (room_of lent) ≡ Taken → ⊥
+  pub late-not-taken : d.number < blocks_in text → answer_to family text d.number d.bytes (room_of (lend lent)) ≡ Taken → ⊥
   late-not-taken lt e = omega (arith, lt, (taken-due e).next)
 
-  -- the next block with grid and spans long enough: the first rule that it breaks, or taken
-  pub next-answer : length d.bytes ≡ 1024 → d.number ≡ blocks_in text → cells_in (text ++ d.bytes) ≤ length lent.grid
-      → 2 * columns_in (text ++ d.bytes) ≤ length lent.spans
-      → answer_to family text d.number d.bytes (room_of lent) ≡ refused_by broken Taken
-  next-answer one e cells numbers =
-      let s : short ≡ false = roomy cells numbers in
+  -- the next block with a grid long enough: the first rule that it breaks, or taken
+  pub next-answer : length d.bytes ≡ 1024 → d.number ≡ blocks_in text → cells_in (text ++ d.bytes) ≤ length lent
+      → answer_to family text d.number d.bytes (room_of (lend lent)) ≡ refused_by broken Taken
+  next-answer one e room =
+      let s : short ≡ false = le-ltb (length lent) (cells_in (text ++ d.bytes)) room in
       next-number one e
       ∙ by-test (eqb d.number 0)
       (λ z. λ i. cond (z i) (refused_by broken (cond (s i) (Refused 12 0 0) Taken))
@@ -181,7 +175,7 @@ module _ (family : ℕ) (text : List ℕ) (lent : Lent) (good : Good family text
 
 -- ---- lists of deliveries
 
-pub stands-all : (family : ℕ) (text : List ℕ) (lent : Lent) (k : Desk) → Stands family text lent k → (ds : List Delivery)
+pub stands-all : (family : ℕ) (text : List ℕ) (lent : List ℤ) (k : Desk) → Stands family text lent k → (ds : List Delivery)
     → Stands family (text ++ text_after k ds) lent (after_all k ds)
 stands-all family text lent k at [] = rw (append-nil text) at
 stands-all family text lent k at (d ∷ ds) =
@@ -189,7 +183,7 @@ stands-all family text lent k at (d ∷ ds) =
     rw (← append-brackets text bytes (text_after (after k d) ds))
     (stands-all family (text ++ bytes) lent (after k d) (stands-next family text lent k at d) ds)
 
-pub stands_after : (family : ℕ) → known family ≡ true → (lent : Lent) (ds : List Delivery)
+pub stands_after : (family : ℕ) → known family ≡ true → (lent : List ℤ) (ds : List Delivery)
     → Stands family (text_after (at_first family lent) ds) lent (after_all (at_first family lent) ds)
 stands_after family known lent ds = stands-all family [] lent (at_first family lent) (stands-first family known lent) ds
 
@@ -198,7 +192,7 @@ after-append k [] es = refl
 after-append k (d ∷ ds) es = after-append (after k d) ds es
 
 -- a block just taken is not taken again
-pub second-nothing : (family : ℕ) (text : List ℕ) (lent : Lent) (k : Desk) → Stands family text lent k → (d : Delivery)
+pub second-nothing : (family : ℕ) (text : List ℕ) (lent : List ℤ) (k : Desk) → Stands family text lent k → (d : Delivery)
     → after (after k d) d ≡ after k d
 second-nothing family text lent k at d = go (answered k d) refl
   where
@@ -218,7 +212,7 @@ second-nothing family text lent k at d = go (answered k d) refl
     go (Refused kind block byte) e =
         let n = not-taken-nothing k d (λ t. not-refused kind block byte (sym e ∙ t)) in ap (λ (w : Desk). after w d) n
 
-pub twice-once : (family : ℕ) (text : List ℕ) (lent : Lent) (k : Desk) → Stands family text lent k → (ds : List Delivery)
+pub twice-once : (family : ℕ) (text : List ℕ) (lent : List ℤ) (k : Desk) → Stands family text lent k → (ds : List Delivery)
     → after_all k (twice ds) ≡ after_all k ds
 twice-once family text lent k at [] = refl
 twice-once family text lent k at (d ∷ ds) =

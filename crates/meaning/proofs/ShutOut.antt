@@ -13,9 +13,9 @@ use Rattle.session.specs.Session.{fresh}
 use Rattle.ground.specs.Posts.{void}
 use Rattle.delivery.specs.declared.Answer.{Answer}
 use Rattle.delivery.specs.declared.Answer.TheVariants.{Taken, Held, Refused}
-use Rattle.lent.specs.Lent.{lend}
-use Rattle.meaning.specs.Deliveries.{Call, Calls, called, Delivery, Fresh, deliveries, answers, session_after, lent_after_all}
-use Rattle.meaning.specs.PaperSheet.{block0, paper_sheet, paper_lent, paper_session, paper_cells, paper_spans}
+use Rattle.delivery.specs.Deliver.{lend}
+use Rattle.meaning.specs.Deliveries.{Call, Calls, called, Delivery, Fresh, deliveries, answers, session_after, grid_after}
+use Rattle.meaning.specs.PaperSheet.{block0, paper_sheet, paper_lent, paper_session, paper_cells}
 use Rattle.meaning.proofs.Desks.{Desk, desk, at_first, after, after_all, all_answered, call-desk, calls-desk, calls-answers}
 use Rattle.meaning.proofs.Witness.{after-block0, paper-answers, paper-desk}
 
@@ -47,17 +47,14 @@ module _ (cs : List Call) (kept : Fresh 0 paper_lent cs) (paper : deliveries cs 
   pub all-taken : answers cs ≡ Taken ∷ Taken ∷ Taken ∷ []
   all-taken = calls-answers kept ∙ ap (all_answered (at_first 0 paper_lent)) paper ∙ paper-answers
 
-  at-the-end : desk (session_after fresh cs) (lent_after_all paper_lent cs) ≡ desk paper_session (lend paper_cells paper_spans)
+  at-the-end : desk (session_after fresh cs) (lend (grid_after paper_lent cs)) ≡ desk paper_session (lend paper_cells)
   at-the-end = calls-desk kept ∙ ap (after_all (at_first 0 paper_lent)) paper ∙ paper-desk
 
   pub session-is : session_after fresh cs ≡ paper_session
   session-is = ap (λ (k : Desk). k.session) at-the-end
 
-  pub cells_are : (lent_after_all paper_lent cs).grid ≡ paper_cells
+  pub cells_are : grid_after paper_lent cs ≡ paper_cells
   cells_are = ap (λ (k : Desk). k.lent.grid) at-the-end
-
-  pub spans-are : (lent_after_all paper_lent cs).spans ≡ paper_spans
-  spans-are = ap (λ (k : Desk). k.lent.spans) at-the-end
 
   -- not all refused, nor all held
   pub not-all-refused : all_are is_refused (answers cs) ≡ true → ⊥
@@ -79,11 +76,11 @@ module _ (c : Call) (cs : List Call) (kept : Fresh 0 paper_lent (c ∷ cs)) (pap
   first-desk : desk c.returned.session c.left ≡ after (at_first 0 paper_lent) c.sent
   first-desk = go kept
     where
-      go : Calls fresh paper_lent (c ∷ cs) → desk c.returned.session c.left ≡ after (at_first 0 paper_lent) c.sent
+      go : Calls fresh (lend paper_lent) (c ∷ cs) → desk c.returned.session c.left ≡ after (at_first 0 paper_lent) c.sent
       go (called p rest) = call-desk p
 
   -- takes blocks and places nothing: the grid stays as block 0 left it
-  pub places-what-it-takes : (lent_after_all c.left cs).grid ≡ c.left.grid → ⊥
+  pub places-what-it-takes : grid_after c.left.grid cs ≡ c.left.grid → ⊥
   places-what-it-takes idle =
       clash
       (ap southwest_void

@@ -16,7 +16,6 @@ use Rattle.session.specs.Session.{busy, open_blocks, no_profile}
 use Rattle.session.specs.declared.Profile.{Profile}
 use Rattle.session.specs.declared.Session.{Session}
 use Rattle.ground.specs.Extremes.{least_stated, greatest_stated}
-use Rattle.lent.specs.declared.Span.{Span}
 use Rattle.delivery.specs.Deliver.{Verdict, wrong, close_verdict, refusal, close_fault, fills, closed_session, filling, next_cell}
 use Rattle.meaning.specs.Rules.{Breach, first_broken, breach, rule, when, closing_rules, sheet_rules, is_whole, end_of}
 use Rattle.meaning.specs.Text.{header_in, profiles_in, start_of, head_in, heights_in, all_heights, posts_in, column_in}
@@ -109,14 +108,13 @@ module _ (family : ℕ) (text more block : List ℕ) (k : ℕ) (x : Extends text
 
   -- the block's posts placed, and the profile closed with its last
   pub filling-rules :
-      (span : Span)
-      → let s = begun_session family text in
+      let s = begun_session family text in
       let p = read_so_far text more c in
       let hs = new_heights text more block k x some c here in
-      filling s k (column_in more 0) p span hs
+      filling s k (column_in more 0) p hs
       ≡ by_breach (first_broken (when (is_whole more c) (closing_rules more c) ++ when (leb (end_of more) (blocks_in more)) (sheet_rules more)))
-      (fills (begun_session family more) (next_cell s (column_in more 0) p) hs span)
-  filling-rules span =
+      (fills (begun_session family more) (next_cell s (column_in more 0) p) hs)
+  filling-rules =
       let s = begun_session family text in
       let p = read_so_far text more c in
       let hs = new_heights text more block k x some c here in
@@ -124,7 +122,7 @@ module _ (family : ℕ) (text more block : List ℕ) (k : ℕ) (x : Extends text
       let n : profiles_in more ≡ profiles_in text = ap (λ (h : Header). h.profiles) (header-same text more block k x some) in
       ap₂
       (λ (b : Bool) (z : Session).
-      cond b (fills z at hs span) (close_verdict (close_fault (k - open_blocks s) z) (fills (closed_session z) at hs span)))
+      cond b (fills z at hs) (close_verdict (close_fault (k - open_blocks s) z) (fills (closed_session z) at hs)))
       (last-or-not family text more block k x some c here) (session-filled family text more block k x some c here)
       ∙ (by-test (ltb (blocks_in more) (start_of more (suc c)))
       (λ t.
@@ -133,15 +131,15 @@ module _ (family : ℕ) (text more block : List ℕ) (k : ℕ) (x : Extends text
       let l : leb (end_of more) (blocks_in more) ≡ false
       = lt-leb (end_of more) (blocks_in more)
       (omega (arith, lt, start-order more (suc c) (profiles_in more) (omega (arith, n, here.below-n)))) in
-      rw (t, w, l) (ap (λ (z : Session). fills z at hs span) (session-open family text more block k x some c here lt)))
+      rw (t, w, l) (ap (λ (z : Session). fills z at hs) (session-open family text more block k x some c here lt)))
       (λ t.
       let le = ltb-false (blocks_in more) (start_of more (suc c)) t in
       let ex = exactly family text more block k x some c here le in
       let w : is_whole more c ≡ true = le-leb (start_of more (suc c)) (blocks_in more) le in
       let l : leb (end_of more) (blocks_in more) ≡ eqb (c + 1) (profiles_in more) = last-profile n ex in
       rw (t, w, l)
-      (ap (λ (z : Session). close_verdict (close_fault (k - open_blocks s) (open_session family more c)) (fills z at hs span)) (session-closed family text more block k x some c here le)
-      ∙ close-rules family more c (k - open_blocks s) (fills (begun_session family more) at hs span) first_block)))
+      (ap (λ (z : Session). close_verdict (close_fault (k - open_blocks s) (open_session family more c)) (fills z at hs)) (session-closed family text more block k x some c here le)
+      ∙ close-rules family more c (k - open_blocks s) (fills (begun_session family more) at hs) first_block)))
     where
       last-profile : profiles_in more ≡ profiles_in text → start_of more (suc c) ≡ blocks_in more
           → leb (end_of more) (blocks_in more) ≡ eqb (c + 1) (profiles_in more)

@@ -1,5 +1,5 @@
 -- Demand 3 over the joined text: what a delivery is answered, said without a session; and a list of calls of `deliver`.
-use Rattle.std.specs.Prelude.{cond, not, eqb, ltb, List, ◌++◌, [], ◌∷◌, map, ℕ, ◌+◌, ◌*◌, ◌≤◌, ◌<◌, length, get_or, ℤ, ◌≡◌}
+use Rattle.std.specs.Prelude.{cond, not, eqb, ltb, List, ◌++◌, [], ◌∷◌, map, ℕ, ◌≤◌, ◌<◌, length, get_or, ℤ, ◌≡◌}
 use Rattle.ground.specs.Blocks.{blocks_in}
 use Rattle.ground.specs.Posts.{void}
 use Rattle.session.specs.declared.Session.{Session}
@@ -7,10 +7,9 @@ use Rattle.session.specs.Session.{opened}
 use Rattle.delivery.specs.declared.Answer.{Answer}
 use Rattle.delivery.specs.declared.Answer.TheVariants.{Refused, Taken, Held}
 use Rattle.delivery.specs.declared.Delivered.{Delivered}
-use Rattle.lent.specs.Lent.{Lent, Room, too_short, first_row, stated_posts}
-use Rattle.delivery.specs.Deliver.{deliver_of, lent_after}
+use Rattle.delivery.specs.Deliver.{Lent, Room, lend, too_short, deliver_of, lent_after}
 use Rattle.meaning.specs.Rules.{Breach, first_breach, is_complete}
-use Rattle.meaning.specs.Text.{cells_in, columns_in, header_in}
+use Rattle.meaning.specs.Text.{cells_in, header_in}
 
 -- "refused with kind, block and byte", where a rule is broken
 abbrev pub refused_by : Breach → Answer → Answer
@@ -40,11 +39,10 @@ pub record Call : Type 0 where
   pub returned : Delivered
   pub left : Lent
 
--- what `load::deliver` promises of a call, word for word: its three equations (paper, proof Contracts, reads them off the contract)
+-- what `load::deliver` promises of a call, word for word: its two equations (paper, proof Contracts, reads them off the contract)
 pub record Promised (s : Session) (lent : Lent) (c : Call) : Type 0 where
   pub answers : c.returned ≡ deliver_of s c.sent.number c.sent.bytes lent
   pub fills : c.left.grid ≡ (lent_after s c.sent.number c.sent.bytes lent).grid
-  pub marks : c.left.spans ≡ (lent_after s c.sent.number c.sent.bytes lent).spans
 
 -- calls from a session and what is lent, each handed what the one before it returned and left
 pub data Calls : Session → Lent → List Call → Type 0 where
@@ -52,18 +50,18 @@ pub data Calls : Session → Lent → List Call → Type 0 where
   called : {s : Session} {lent : Lent} {c : Call} {cs : List Call} → Promised s lent c → Calls c.returned.session c.left cs
       → Calls s lent (c ∷ cs)
 
--- a fresh session of a family, and grid and spans as they are lent
-abbrev pub Fresh : ℕ → Lent → List Call → Type 0
-Fresh family lent cs = Calls (opened family) lent cs
+-- a fresh session of a family, and a grid as it is lent
+abbrev pub Fresh : ℕ → List ℤ → List Call → Type 0
+Fresh family grid cs = Calls (opened family) (lend grid) cs
 
--- the session as last returned, and grid and spans as last left
+-- the session as last returned, and the grid as last left
 abbrev pub session_after : Session → List Call → Session
 session_after s [] = s
 session_after s (c ∷ cs) = session_after c.returned.session cs
 
-abbrev pub lent_after_all : Lent → List Call → Lent
-lent_after_all lent [] = lent
-lent_after_all lent (c ∷ cs) = lent_after_all c.left cs
+abbrev pub grid_after : List ℤ → List Call → List ℤ
+grid_after grid [] = grid
+grid_after grid (c ∷ cs) = grid_after c.left.grid cs
 
 -- the bytes of a delivery that was taken
 abbrev pub bytes_if : Answer → List ℕ → List ℕ
@@ -93,19 +91,13 @@ pub data Disturbed : List Call → List Delivery → Type 0 where
   sent : {c : Call} {es : List Call} {ds : List Delivery} → Disturbed es ds → Disturbed (c ∷ es) (c.sent ∷ ds)
   disturbed : {c : Call} {es : List Call} {ds : List Delivery} → (c.returned.answer ≡ Taken → ⊥) → Disturbed es ds → Disturbed (c ∷ es) ds
 
--- "A block is taken exactly when ..": 1,024 bytes under the next number, no rule of the family broken by the text with it, and cells enough and
--- spans enough, two numbers a column
-pub record Due (family : ℕ) (text : List ℕ) (lent : Lent) (d : Delivery) : Type 0 where
+-- "A block is taken exactly when ..": 1,024 bytes under the next number, no rule of the family broken by the text with it, and cells enough
+pub record Due (family : ℕ) (text : List ℕ) (lent : List ℤ) (d : Delivery) : Type 0 where
   pub next : d.number ≡ blocks_in text
   pub block : length d.bytes ≡ 1024
   pub kept : (first_breach family (text ++ d.bytes)).kind ≡ 0
-  pub room : cells_in (text ++ d.bytes) ≤ length lent.grid
-  pub numbers : 2 * columns_in (text ++ d.bytes) ≤ length lent.spans
+  pub room : cells_in (text ++ d.bytes) ≤ length lent
 
 -- a cell of the grid, and what it holds: the index stands inside, so no value is made up
 abbrev pub Holds : List ℤ → ℕ → ℤ → Type 0
 Holds grid c value = (c < length grid) × (get_or grid c void ≡ value)
-
--- a column of the spans, and its two numbers: they too stand inside
-abbrev pub Says : List ℕ → ℕ → ℕ → ℕ → Type 0
-Says spans column row posts = (2 * column + 1 < length spans) × (first_row spans column ≡ row) × (stated_posts spans column ≡ posts)

@@ -1,14 +1,13 @@
--- What a text of a family that breaks no rule means: its session, its grid and its spans. Counts are counts of posts and blocks of the text.
-use Rattle.std.specs.Prelude.{cond, Bool, false, List, ◌++◌, map, ℕ, zero, suc, ◌*◌, ◌/◌, ◌%◌, leb, ltb, eqb, length, drop, ℤ}
+-- What a text of a family that breaks no rule means: its session and its grid. Counts are counts of posts and blocks of the text.
+use Rattle.std.specs.Prelude.{cond, Bool, false, List, ◌++◌, map, ℕ, zero, suc, leb, ltb, eqb, length, drop, ℤ}
 use Rattle.ground.specs.Blocks.{blocks_in}
 use Rattle.laws.specs.Lists.{below}
-use Rattle.laws.specs.Sign.{◌and◌}
 use Rattle.session.specs.declared.Profile.{Profile}
 use Rattle.session.specs.Session.{no_profile, opened}
 use Rattle.session.specs.declared.Session.{Session}
 use Rattle.ground.specs.Posts.{filled_in}
 use Rattle.ground.specs.Extremes.{filled_only, least_of, greatest_of, sum_of}
-use Rattle.meaning.specs.Text.{start_of, profiles_in, head_in, row_in, posts_in, heights_in, header_in, column_in, all_heights, cells_in, cell_in, columns_in, profile_at}
+use Rattle.meaning.specs.Text.{start_of, profiles_in, head_in, row_in, posts_in, heights_in, header_in, column_in, all_heights, cells_in, cell_in}
 use Rattle.meaning.specs.Rules.{has_begun, end_of}
 
 -- how many of the first n profiles are closed: the text has every block of theirs
@@ -62,26 +61,3 @@ session_of family text = cond (eqb (blocks_in text) 0) (opened family) (begun_se
 abbrev pub grid_of : List ℕ → List ℤ → List ℤ
 grid_of text lent =
     cond (eqb (blocks_in text) 0) lent (map (cell_in text) (below (cells_in text)) ++ drop (cells_in text) lent)
-
--- ---- 02, request 7: the spans
-
--- a profile stands in a column "from its profile's first block on"
-abbrev pub profile_stands : List ℕ → ℕ → Bool
-profile_stands text column =
-    leb (column_in text 0) column and ltb (profile_at text column) (profiles_in text) and has_begun text (profile_at text column)
-
--- "the first row and stated post count of each column", "else zero and zero"
-abbrev pub first_row_in : List ℕ → ℕ → ℕ
-first_row_in text column = cond (profile_stands text column) (row_in text (profile_at text column)) 0
-
-abbrev pub stated_in : List ℕ → ℕ → ℕ
-stated_in text column = cond (profile_stands text column) (head_in text (profile_at text column)).posts 0
-
--- number 2c is the first row of column c, 2c + 1 its stated posts
-abbrev pub span_number : List ℕ → ℕ → ℕ
-span_number text i = cond (eqb (i % 2) 0) (first_row_in text (i / 2)) (stated_in text (i / 2))
-
--- before block 0 as lent; what lies past the sheet's columns as it was lent
-abbrev pub spans_of : List ℕ → List ℕ → List ℕ
-spans_of text lent =
-    cond (eqb (blocks_in text) 0) lent (map (span_number text) (below (2 * columns_in text)) ++ drop (2 * columns_in text) lent)

@@ -10,7 +10,6 @@ use Rattle.heading.specs.Heading.{billion}
 use Rattle.session.specs.Session.{no_profile}
 use Rattle.session.specs.declared.Session.{Session}
 use Rattle.ground.specs.Posts.{void}
-use Rattle.lent.specs.Lent.{Lent, lend}
 use Rattle.meaning.specs.Deliveries.{Delivery}
 
 -- ---- fields of a width
@@ -119,7 +118,7 @@ profile2 =
     ∷ blanks 868
     ∷ [])
 
--- ---- the three deliveries, and what is lent: the sheet's six cells and one past it, two columns' numbers and one past them
+-- ---- the three deliveries, and the grid lent: the sheet's six cells and one past it
 
 abbrev pub block0 : Delivery
 block0 = record { number = 0; bytes = paper_a }
@@ -133,8 +132,8 @@ block2 = record { number = 2; bytes = profile2 }
 abbrev pub paper_sheet : List Delivery
 paper_sheet = block0 ∷ block1 ∷ block2 ∷ []
 
-abbrev pub paper_lent : Lent
-paper_lent = lend (replicate 7 (pos 7)) (replicate 5 7)
+abbrev pub paper_lent : List ℤ
+paper_lent = replicate 7 (pos 7)
 
 -- ---- what the paper tells of it
 
@@ -185,7 +184,3 @@ paper_session =
 -- "Cells: 1000, void, 1200, void, 1100, 900", and the cell past the sheet as lent
 abbrev pub paper_cells : List ℤ
 paper_cells = pos 1000 ∷ void ∷ pos 1200 ∷ void ∷ pos 1100 ∷ pos 900 ∷ pos 7 ∷ []
-
--- "Profile 1 from (600,900)", three posts; "Profile 2 from (630,930)", two: first row and stated posts of each column, and the number past them as lent
-abbrev pub paper_spans : List ℕ
-paper_spans = 0 ∷ 3 ∷ 1 ∷ 2 ∷ 7 ∷ []

@@ -8,37 +8,37 @@ use lib.IntN.{ℤ}
 use lib.ListN.{drop}
 use Rattle.laws.proofs.Tests.{by-test}
 use Rattle.session.specs.declared.Session.{Session}
-use Rattle.lent.specs.Lent.{Lent}
+use Rattle.delivery.specs.Deliver.{lend}
 use Rattle.runs.specs.Run.{ran_of}
 use Rattle.runs.proofs.RunLaws.{none-taken}
-use Rattle.arrivals.specs.Arrivals.{RunCall, RunPromised, Arrival, single, several, Arrivals, none_yet, one_more, run_more, session_last, lent_last}
+use Rattle.arrivals.specs.Arrivals.{RunCall, RunPromised, Arrival, single, several, Arrivals, none_yet, one_more, run_more, session_last, grid_last}
 use Rattle.ledger.specs.Numbers.{kept, session_numbers}
 use Rattle.ledger.specs.Ledger.{session_said}
 use Rattle.ledger.proofs.Inverse.{said-back}
 use Rattle.courier.specs.Courier.{ran_to}
-use Rattle.office.specs.DeskArrivals.{DeskRun, DeskRunPromised, DeskArrival, desk_block, desk_run, DeskArrivals, none_yet as no_desk_yet, one_more as one_desk_more, run_more as run_desk_more, numbers_last, left_last}
+use Rattle.office.specs.DeskArrivals.{DeskRun, DeskRunPromised, DeskArrival, desk_block, desk_run, DeskArrivals, none_yet as no_desk_yet, one_more as one_desk_more, run_more as run_desk_more, numbers_last, cells_last}
 use Rattle.office.proofs.AsCalls.{as_call, as-promised, call-says, call-keeps}
 
 -- ---- one run
 
-abbrev pub as_run : List ℤ → Lent → DeskRun → RunCall
-as_run numbers lent c =
-    record { number = c.number; blocks = c.blocks; returned = ran_of (ran_to numbers c.number c.blocks lent); left = c.left }
+abbrev pub as_run : List ℤ → List ℤ → DeskRun → RunCall
+as_run numbers grid c =
+    record { number = c.number; blocks = c.blocks; returned = ran_of (ran_to numbers c.number c.blocks grid); left = lend c.grid }
 
-pub as-run-promised : {numbers : List ℤ} {lent : Lent} {c : DeskRun} → DeskRunPromised numbers lent c
-    → RunPromised (session_said numbers) lent (as_run numbers lent c)
-as-run-promised p = record { answers = refl; fills = p.fills; marks = p.marks }
+pub as-run-promised : {numbers grid : List ℤ} {c : DeskRun} → DeskRunPromised numbers grid c
+    → RunPromised (session_said numbers) (lend grid) (as_run numbers grid c)
+as-run-promised p = record { answers = refl; fills = p.fills }
 
-module _ {numbers : List ℤ} {lent : Lent} {c : DeskRun} (p : DeskRunPromised numbers lent c) where
+module _ {numbers grid : List ℤ} {c : DeskRun} (p : DeskRunPromised numbers grid c) where
   abbrev s : Session
   s = session_said numbers
 
   abbrev after : Session
-  after = (ran_to numbers c.number c.blocks lent).session
+  after = (ran_to numbers c.number c.blocks grid).session
 
   -- where no block was taken the session is as it was
   still : ltb s.taken after.taken ≡ false → after ≡ s
-  still e = none-taken s c.number c.blocks lent e
+  still e = none-taken s c.number c.blocks (lend grid) e
 
   pub run-says : session_said c.session ≡ after
   run-says =
@@ -54,33 +54,33 @@ module _ {numbers : List ℤ} {lent : Lent} {c : DeskRun} (p : DeskRunPromised n
 
 -- ---- one after another
 
-abbrev pub as_arrivals : List ℤ → Lent → List DeskArrival → List Arrival
-as_arrivals numbers lent [] = []
-as_arrivals numbers lent (desk_block c ∷ xs) = single (as_call numbers lent c) ∷ as_arrivals c.session c.left xs
-as_arrivals numbers lent (desk_run c ∷ xs) = several (as_run numbers lent c) ∷ as_arrivals c.session c.left xs
+abbrev pub as_arrivals : List ℤ → List ℤ → List DeskArrival → List Arrival
+as_arrivals numbers grid [] = []
+as_arrivals numbers grid (desk_block c ∷ xs) = single (as_call numbers grid c) ∷ as_arrivals c.session c.grid xs
+as_arrivals numbers grid (desk_run c ∷ xs) = several (as_run numbers grid c) ∷ as_arrivals c.session c.grid xs
 
-pub as-arrivals : {numbers : List ℤ} {lent : Lent} {xs : List DeskArrival} → DeskArrivals numbers lent xs
-    → Arrivals (session_said numbers) lent (as_arrivals numbers lent xs)
+pub as-arrivals : {numbers grid : List ℤ} {xs : List DeskArrival} → DeskArrivals numbers grid xs
+    → Arrivals (session_said numbers) (lend grid) (as_arrivals numbers grid xs)
 as-arrivals no_desk_yet = none_yet
-as-arrivals (one_desk_more {numbers} {lent} {c} {xs} p rest) =
+as-arrivals (one_desk_more {numbers} {grid} {c} {xs} p rest) =
     one_more (as-promised p)
-    (subst (λ (x : Session). Arrivals x c.left (as_arrivals c.session c.left xs)) (call-says p) (as-arrivals rest))
-as-arrivals (run_desk_more {numbers} {lent} {c} {xs} p rest) =
+    (subst (λ (x : Session). Arrivals x (lend c.grid) (as_arrivals c.session c.grid xs)) (call-says p) (as-arrivals rest))
+as-arrivals (run_desk_more {numbers} {grid} {c} {xs} p rest) =
     run_more (as-run-promised p)
-    (subst (λ (x : Session). Arrivals x c.left (as_arrivals c.session c.left xs)) (run-says p) (as-arrivals rest))
+    (subst (λ (x : Session). Arrivals x (lend c.grid) (as_arrivals c.session c.grid xs)) (run-says p) (as-arrivals rest))
 
-pub left-last : (numbers : List ℤ) (lent : Lent) (xs : List DeskArrival) → lent_last lent (as_arrivals numbers lent xs) ≡ left_last lent xs
-left-last numbers lent [] = refl
-left-last numbers lent (desk_block c ∷ xs) = left-last c.session c.left xs
-left-last numbers lent (desk_run c ∷ xs) = left-last c.session c.left xs
+pub cells-last : (numbers grid : List ℤ) (xs : List DeskArrival) → grid_last grid (as_arrivals numbers grid xs) ≡ cells_last grid xs
+cells-last numbers grid [] = refl
+cells-last numbers grid (desk_block c ∷ xs) = cells-last c.session c.grid xs
+cells-last numbers grid (desk_run c ∷ xs) = cells-last c.session c.grid xs
 
-pub numbers-last : {numbers : List ℤ} {lent : Lent} {xs : List DeskArrival} (base : List ℤ) → DeskArrivals numbers lent xs
+pub numbers-last : {numbers grid : List ℤ} {xs : List DeskArrival} (base : List ℤ) → DeskArrivals numbers grid xs
     → numbers ≡ kept (session_said numbers) base
-    → numbers_last numbers xs ≡ kept (session_last (session_said numbers) (as_arrivals numbers lent xs)) base
+    → numbers_last numbers xs ≡ kept (session_last (session_said numbers) (as_arrivals numbers grid xs)) base
 numbers-last base no_desk_yet e = e
-numbers-last base (one_desk_more {numbers} {lent} {c} {xs} p rest) e =
+numbers-last base (one_desk_more {numbers} {grid} {c} {xs} p rest) e =
     numbers-last base rest (call-keeps p base e)
-    ∙ ap (λ (x : Session). kept (session_last x (as_arrivals c.session c.left xs)) base) (call-says p)
-numbers-last base (run_desk_more {numbers} {lent} {c} {xs} p rest) e =
+    ∙ ap (λ (x : Session). kept (session_last x (as_arrivals c.session c.grid xs)) base) (call-says p)
+numbers-last base (run_desk_more {numbers} {grid} {c} {xs} p rest) e =
     numbers-last base rest (run-keeps p base e)
-    ∙ ap (λ (x : Session). kept (session_last x (as_arrivals c.session c.left xs)) base) (run-says p)
+    ∙ ap (λ (x : Session). kept (session_last x (as_arrivals c.session c.grid xs)) base) (run-says p)

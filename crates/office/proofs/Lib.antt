@@ -2,4 +2,3 @@ pub mod AsCalls
 pub mod DeskDemand3
 pub mod AsArrivals
 pub mod DeskMixed
-pub mod DeskWhy

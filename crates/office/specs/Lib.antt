@@ -1,3 +1,2 @@
 pub mod DeskCalls
 pub mod DeskArrivals
-pub mod DeskAsking

@@ -170,10 +170,7 @@ fn write_behind(z: u64, cells: &[i32], k: u64, block: &mut [u8])
 pub fn write_part(stake: Stake, cells: &[i32], k: u64, block: &mut [u8])
     ensures { block.new ≡ part_after stake cells.now k block.old }
 {
-    if !figures::both(
-        cells.len() <= 2048,
-        k < ground::blocks_for(cells.len() as u64),
-    ) {
+    if !figures::both(cells.len() <= 2048, k < columns::blocks_for(cells.len())) {
         return;
     }
     if k == 0 {

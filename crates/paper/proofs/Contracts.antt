@@ -3,7 +3,7 @@
 use contract.Lifetimes.{Lfts}
 use denote.Triple.Clauses.{AtExit}
 use borrow.Fn.World.{ArgsD, ResD}
-use Rattle.lent.specs.Lent.{lend}
+use Rattle.delivery.specs.Deliver.{lend}
 use Rattle.meaning.specs.Deliveries.{Promised}
 use Rattle.returns.specs.Writers.{Wrote, WroteSheet}
 use Rattle.arrivals.specs.Arrivals.{RunPromised}

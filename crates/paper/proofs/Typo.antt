@@ -17,8 +17,7 @@ use Rattle.profile.specs.RecordB.{record_b}
 use Rattle.session.specs.declared.Session.{Session}
 use Rattle.session.specs.Session.{begun, sound}
 use Rattle.delivery.specs.declared.Answer.TheVariants.{Refused}
-use Rattle.lent.specs.Lent.{lend}
-use Rattle.delivery.specs.Deliver.{verdict_of, deliver_of}
+use Rattle.delivery.specs.Deliver.{lend, verdict_of, deliver_of}
 use Rattle.delivery.specs.RulesDue.{rules_due}
 use Rattle.delivery.proofs.Pointed.{wrong-form-told}
 use Rattle.meaning.specs.PaperSheet.{paper_header, profile1, paper_lent}

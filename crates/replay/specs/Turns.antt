@@ -1,8 +1,7 @@
 -- What a delivery of a script asks for, and what it leaves.
 use Rattle.std.specs.Prelude.{◌≡◌, List, ◌++◌, ℕ, ◌≤◌, ℤ, take, drop}
 use Rattle.session.specs.declared.Session.{Session}
-use Rattle.lent.specs.Lent.{lend}
-use Rattle.delivery.specs.Deliver.{deliver_of, lent_after}
+use Rattle.delivery.specs.Deliver.{lend, deliver_of, lent_after}
 use Rattle.replay.specs.declared.Next.{Next}
 
 -- what was read asks for no more cells than there are, and for no more bytes than a block can have

@@ -5,13 +5,12 @@ use Prim.Native.Nat.{ℕ, ◌<◌, ◌≤◌}
 use native.Mathlib.Omega.{arith}
 use lib.IntN.{ℤ}
 use lib.Dec.{leb}
-use lib.ListN.{length, replicate, length-replicate}
+use lib.ListN.{length}
 use mathlib.Core.Bool.{true}
 use borrow.Author.Tests.{leb-true, leb-false}
 use Rattle.laws.proofs.Tests.{by-test}
 use Rattle.laws.proofs.Lists.{map_same}
 use Rattle.frame.specs.Frame.{columns_of, rows_of, cells_of}
-use Rattle.lent.specs.Lent.{Lent, lend, numbers_of}
 use Rattle.frame.specs.declared.Header.{Header}
 use Rattle.heading.specs.Heading.{header_of}
 use Rattle.session.specs.Session.{complete}
@@ -40,24 +39,16 @@ module _ (template : List ℕ) where
   abbrev pub SameBlocks : List ℤ → List ℤ → Type 0
   SameBlocks g g' = (b : ℕ) → b < count g → b < count g' → block_sent template h g b ≡ block_sent template h g' b
 
-  -- a grid lent, and spans enough
-  abbrev pub with_spans : List ℤ → Lent
-  with_spans g = lend g (replicate (numbers_of h) 0)
-
-  pub spans-enough : (g : List ℤ) → numbers_of h ≤ length (with_spans g).spans
-  spans-enough g = let e : length (replicate {A = ℕ} (numbers_of h) 0) ≡ numbers_of h = length-replicate (numbers_of h) 0 in omega (arith, e)
-
-  abbrev pub desk_of : Lent → List ℤ → ℕ → Desk
+  abbrev pub desk_of : List ℤ → List ℤ → ℕ → Desk
   desk_of lent g k = after_all (at_first 0 lent) (in_order (block_sent template h g) k)
 
-  pub desks-alike : (lent : Lent) (g g' : List ℤ) → SameBlocks g g' → (k : ℕ) → k ≤ count g → k ≤ count g' → desk_of lent g k ≡ desk_of lent g' k
+  pub desks-alike : (lent g g' : List ℤ) → SameBlocks g g' → (k : ℕ) → k ≤ count g → k ≤ count g' → desk_of lent g k ≡ desk_of lent g' k
   desks-alike lent g g' same k le le' =
       ap (after_all (at_first 0 lent))
       (map_same (delivery (block_sent template h g)) (delivery (block_sent template h g')) 0 k
       (λ b p q. ap (λ (l : List ℕ). record { number = b; bytes = l }) (same b (omega (arith, q, le)) (omega (arith, q, le')))))
 
-  module _ (g : List ℤ) (can : CanBeSent template g) (lent : Lent) (room : cells_of h ≤ length lent.grid)
-      (numbers : numbers_of h ≤ length lent.spans) where
+  module _ (g : List ℤ) (can : CanBeSent template g) (lent : List ℤ) (room : cells_of h ≤ length lent) where
     count-is : start_by (cells_sent h g) (columns_of h) ≡ count g
     count-is = start_is template h g can.sheet can.room (all-cells template g can) (columns_of h)
 
@@ -67,23 +58,23 @@ module _ (template : List ℕ) where
     completes : complete (desk_of lent g (count g)).session ≡ true
     completes =
         ap (λ (k : ℕ). complete (desk_of lent g k).session) (sym count-is)
-        ∙ Order.completes (block_sent template h g) (cells_sent h g) (λ c. first_row (column_cells h g c)) (header_sent h g) layout lent room numbers
+        ∙ Order.completes (block_sent template h g) (cells_sent h g) (λ c. first_row (column_cells h g c)) (header_sent h g) layout lent room
 
     taken : (k : ℕ) → k < count g → answered (desk_of lent g k) (delivery (block_sent template h g) k) ≡ Taken
     taken k lt =
-        Order.each-taken (block_sent template h g) (cells_sent h g) (λ c. first_row (column_cells h g c)) (header_sent h g) layout lent room numbers k
+        Order.each-taken (block_sent template h g) (cells_sent h g) (λ c. first_row (column_cells h g c)) (header_sent h g) layout lent room k
         (omega (arith, lt, count-is))
 
   -- neither has a block more: the sheet would be complete before it
   not_more : (g g' : List ℤ) → CanBeSent template g → CanBeSent template g' → SameBlocks g g' → count g < count g' → ⊥
   not_more g g' can can' same lt =
       let k = count g in
-      let done : complete (desk_of (with_spans g) g' k).session ≡ true
-      = ap (λ (x : Desk). complete x.session) (sym (desks-alike (with_spans g) g g' same k (omega arith) (omega (arith, lt))))
-      ∙ completes g can (with_spans g) can.room (spans-enough g) in
-      none-when-complete (desk_of (with_spans g) g' k) (delivery (block_sent template h g') k)
+      let done : complete (desk_of g g' k).session ≡ true
+      = ap (λ (x : Desk). complete x.session) (sym (desks-alike g g g' same k (omega arith) (omega (arith, lt))))
+      ∙ completes g can g can.room in
+      none-when-complete (desk_of g g' k) (delivery (block_sent template h g') k)
       (omega (arith, start-from (rows_of h) g (columns_of h))) done
-      (taken g' can' (with_spans g) can.room (spans-enough g) k lt)
+      (taken g' can' g can.room k lt)
 
   pub as_many : (g g' : List ℤ) → CanBeSent template g → CanBeSent template g' → SameBlocks g g' → count g ≡ count g'
   as_many g g' can can' same =

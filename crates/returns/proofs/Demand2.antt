@@ -25,8 +25,8 @@ use Rattle.ground.specs.Blocks.{block_at}
 use Rattle.ground.proofs.BlocksJoined.{block-at}
 use Rattle.ground.specs.Posts.{void}
 use Rattle.delivery.specs.declared.Answer.TheVariants.{Taken}
-use Rattle.meaning.specs.Deliveries.{Call, Fresh, session_after, lent_after_all, deliveries, answers}
-use Rattle.lent.specs.Lent.{Lent, numbers_of}
+use Rattle.meaning.specs.Deliveries.{Call, Fresh, session_after, grid_after, deliveries, answers}
+use Rattle.delivery.specs.Deliver.{lend}
 use Rattle.meaning.proofs.Desks.{Desk, desk, at_first, after_all, all_answered, calls-desk, calls-answers, calls_for, calls-kept, calls-deliver}
 use Rattle.written.specs.declared.Sent.TheVariants.{Written}
 use Rattle.written.specs.Cells.{column_cells, first_row, cells_sent, block_count}
@@ -95,8 +95,7 @@ module _ (template : List ℕ) (grid : List ℤ) (w : Writing) (promised : Wrote
 -- blocks that are those of a sheet that can be sent, delivered in order from a fresh session
 module _ (template : List ℕ) (grid : List ℤ) (can : CanBeSent template grid) (block : ℕ → List ℕ)
     (sent : (b : ℕ) → b < block_count (header_of template) grid → block b ≡ block_sent template (header_of template) grid b)
-    (lent : Lent) (room : cells_of (header_of template) ≤ length lent.grid) (numbers : numbers_of (header_of template) ≤ length lent.spans)
-    (cs : List Call) (kept : Fresh 0 lent cs)
+    (lent : List ℤ) (room : cells_of (header_of template) ≤ length lent) (cs : List Call) (kept : Fresh 0 lent cs)
     (order : deliveries cs ≡ in_order block (block_count (header_of template) grid)) where
   abbrev h : Header
   h = header_of template
@@ -120,7 +119,7 @@ module _ (template : List ℕ) (grid : List ℤ) (can : CanBeSent template grid)
   abbrev end : Desk
   end = after_all (at_first 0 lent) (in_order (block_sent template h grid) (start_by (cells_sent h grid) (columns_of h)))
 
-  same-desk : desk (session_after fresh cs) (lent_after_all lent cs) ≡ end
+  same-desk : desk (session_after fresh cs) (lend (grid_after lent cs)) ≡ end
   same-desk = calls-desk kept ∙ ap (after_all (at_first 0 lent)) same-order
 
   -- each is taken
@@ -128,7 +127,7 @@ module _ (template : List ℕ) (grid : List ℤ) (can : CanBeSent template grid)
   sent-taken =
       calls-answers kept
       ∙ ap (all_answered (at_first 0 lent)) same-order
-      ∙ Order.all-taken (block_sent template h grid) (cells_sent h grid) (λ c. first_row (column_cells h grid c)) (header_sent h grid) layout lent room numbers
+      ∙ Order.all-taken (block_sent template h grid) (cells_sent h grid) (λ c. first_row (column_cells h grid c)) (header_sent h grid) layout lent room
       (start_by (cells_sent h grid) (columns_of h)) (omega arith)
       ∙ ap (λ (n : ℕ). replicate n Taken) count-is
 
@@ -136,25 +135,21 @@ module _ (template : List ℕ) (grid : List ℤ) (can : CanBeSent template grid)
   pub sent-complete : complete (session_after fresh cs) ≡ true
   sent-complete =
       ap (λ (k : Desk). complete k.session) same-desk
-      ∙ Order.completes (block_sent template h grid) (cells_sent h grid) (λ c. first_row (column_cells h grid c)) (header_sent h grid) layout lent room numbers
+      ∙ Order.completes (block_sent template h grid) (cells_sent h grid) (λ c. first_row (column_cells h grid c)) (header_sent h grid) layout lent room
 
   -- the header is the template's: its corners, spacings and units, with the columns for n, the extremes of the cells, and accuracy 0
   pub header-back : (session_after fresh cs).header ≡ header_sent h grid
   header-back =
       ap (λ (k : Desk). k.session.header) same-desk
-      ∙ Order.same-header (block_sent template h grid) (cells_sent h grid) (λ c. first_row (column_cells h grid c)) (header_sent h grid) layout lent room numbers
-
-  -- the grid that they leave
-  abbrev pub back : List ℤ
-  back = (lent_after_all lent cs).grid
+      ∙ Order.same-header (block_sent template h grid) (cells_sent h grid) (λ c. first_row (column_cells h grid c)) (header_sent h grid) layout lent room
 
   -- no cell is added or lost
-  pub as-many-back : length back ≡ length lent.grid
+  pub as-many-back : length (grid_after lent cs) ≡ length lent
   as-many-back =
       ap (λ (k : Desk). length k.lent.grid) same-desk
-      ∙ Order.same_length (block_sent template h grid) (cells_sent h grid) (λ c. first_row (column_cells h grid c)) (header_sent h grid) layout lent room numbers
+      ∙ Order.same_length (block_sent template h grid) (cells_sent h grid) (λ c. first_row (column_cells h grid c)) (header_sent h grid) layout lent room
 
-  cell-back : (i : ℕ) → i < cells_of h → get_or back i void ≡ get_or grid i void
+  cell-back : (i : ℕ) → i < cells_of h → get_or (grid_after lent cs) i void ≡ get_or grid i void
   cell-back i lt =
       let rows = rows_of h in
       let facts = header-facts h (sheet-obeys template h can.sheet) in
@@ -166,26 +161,26 @@ module _ (template : List ℕ) (grid : List ℤ) (can : CanBeSent template grid)
       let e : j * rows + q ≡ i = div-add-mod' i rows in
       ap (λ (k : Desk). get_or k.lent.grid i void) same-desk
       ∙ ap (λ (a : ℕ). get_or end.lent.grid a void) (sym e)
-      ∙ Order.each-cell (block_sent template h grid) (cells_sent h grid) (λ c. first_row (column_cells h grid c)) (header_sent h grid) layout lent room numbers
+      ∙ Order.each-cell (block_sent template h grid) (cells_sent h grid) (λ c. first_row (column_cells h grid c)) (header_sent h grid) layout lent room
       j q inside less
       ∙ sym (cell-sent (column_cells h grid j) q)
       ∙ column-cell h grid j q less
       ∙ ap (λ (a : ℕ). get_or grid a void) e
 
   -- every cell of the sheet is the writer's
-  pub cells-back : take (cells_of h) back ≡ take (cells_of h) grid
+  pub cells-back : take (cells_of h) (grid_after lent cs) ≡ take (cells_of h) grid
   cells-back =
-      let l : length (take (cells_of h) back) ≡ cells_of h = sheet-length h back (omega (arith, room, as-many-back)) in
-      ext_get_or void (take (cells_of h) back) (take (cells_of h) grid) (l ∙ sym (sheet-length h grid can.room))
+      let l : length (take (cells_of h) (grid_after lent cs)) ≡ cells_of h = sheet-length h (grid_after lent cs) (omega (arith, room, as-many-back)) in
+      ext_get_or void (take (cells_of h) (grid_after lent cs)) (take (cells_of h) grid) (l ∙ sym (sheet-length h grid can.room))
       (λ i lt.
       let inside : i < cells_of h = omega (arith, lt, l) in
-      sheet-cell h back i inside ∙ cell-back i inside ∙ sym (sheet-cell h grid i inside))
+      sheet-cell h (grid_after lent cs) i inside ∙ cell-back i inside ∙ sym (sheet-cell h grid i inside))
 
   -- cells past it are as lent
-  pub past_back : drop (cells_of h) back ≡ drop (cells_of h) lent.grid
+  pub past_back : drop (cells_of h) (grid_after lent cs) ≡ drop (cells_of h) lent
   past_back =
       ap (λ (k : Desk). drop (cells_of h) k.lent.grid) same-desk
-      ∙ Order.past-cells (block_sent template h grid) (cells_sent h grid) (λ c. first_row (column_cells h grid c)) (header_sent h grid) layout lent room numbers
+      ∙ Order.past-cells (block_sent template h grid) (cells_sent h grid) (λ c. first_row (column_cells h grid c)) (header_sent h grid) layout lent room
 
 -- blocks that calls of `write_block` left are such blocks: one call for each number, each with a block of 1,024 bytes lent
 module _ (template : List ℕ) (grid : List ℤ) (can : CanBeSent template grid) (calls : ℕ → Writing)
@@ -270,28 +265,25 @@ module _ (template : List ℕ) (g g' : List ℤ) (can : CanBeSent template g) (c
   pub alike-as-many : block_count (header_of template) g ≡ block_count (header_of template) g'
   alike-as-many = Alike.as_many template g g' can can' same
 
-  abbrev lent-g : Lent
-  lent-g = Alike.with_spans template g
-
-  reads-back : (f : List ℤ) → CanBeSent template f
-      → take (cells_of (header_of template)) (Alike.desk_of template lent-g f (block_count (header_of template) f)).lent.grid
+  back : (f : List ℤ) → CanBeSent template f
+      → take (cells_of (header_of template)) (Alike.desk_of template g f (block_count (header_of template) f)).lent.grid
       ≡ take (cells_of (header_of template)) f
-  reads-back f able =
+  back f able =
       let ds = in_order (block_sent template (header_of template) f) (block_count (header_of template) f) in
-      let cs = calls_for (at_first 0 lent-g) ds in
-      let sent = calls-deliver (at_first 0 lent-g) ds in
-      let kept : Fresh 0 lent-g cs = calls-kept (at_first 0 lent-g) ds in
-      ap (λ (k : Desk). take (cells_of (header_of template)) k.lent.grid) (sym (calls-desk kept ∙ ap (after_all (at_first 0 lent-g)) sent))
-      ∙ cells-back template f able (block_sent template (header_of template) f) (λ b lt. refl) lent-g can.room (Alike.spans-enough template g) cs kept sent
+      let cs = calls_for (at_first 0 g) ds in
+      let sent = calls-deliver (at_first 0 g) ds in
+      let kept : Fresh 0 g cs = calls-kept (at_first 0 g) ds in
+      ap (λ (k : Desk). take (cells_of (header_of template)) k.lent.grid) (sym (calls-desk kept ∙ ap (after_all (at_first 0 g)) sent))
+      ∙ cells-back template f able (block_sent template (header_of template) f) (λ b lt. refl) g can.room cs kept sent
 
   pub no-two-grids-alike : take (cells_of (header_of template)) g ≡ take (cells_of (header_of template)) g'
   no-two-grids-alike =
       let cells = cells_of (header_of template) in
-      sym (reads-back g can)
+      sym (back g can)
       ∙ ap (λ (k : Desk). take cells k.lent.grid)
-      (Alike.desks-alike template lent-g g g' same (block_count (header_of template) g) (omega arith) (omega (arith, alike-as-many)))
-      ∙ ap (λ (n : ℕ). take cells (Alike.desk_of template lent-g g' n).lent.grid) alike-as-many
-      ∙ reads-back g' can'
+      (Alike.desks-alike template g g g' same (block_count (header_of template) g) (omega arith) (omega (arith, alike-as-many)))
+      ∙ ap (λ (n : ℕ). take cells (Alike.desk_of template g g' n).lent.grid) alike-as-many
+      ∙ back g' can'
 
 -- ---- 6. no written real needs more than 15 digits, 6 in the spacings
 

@@ -34,8 +34,7 @@ use Rattle.meaning.specs.Text.{room_in, header_in, profiles_in, start_of, head_i
 use Rattle.meaning.proofs.Lists.{Kept, kept-both}
 use Rattle.meaning.proofs.Starts.{start-order, start-from, none_yet}
 use Rattle.meaning.proofs.Joined.{Here, column_by, row_by, start-same, heights-whole, new_heights, heights-grow, all-grow}
-use Rattle.meaning.proofs.Fronts.{map_at}
-use Rattle.meaning.proofs.EachPost.{stands-for, value-void, value-of-post}
+use Rattle.meaning.proofs.EachPost.{map_at, stands-for, value-void, value-of-post}
 use Rattle.meaning.proofs.RulesGrow.{closing_due, further-due, opening-due, first-due-kept}
 use Rattle.ground.proofs.BlocksJoined as Blocks
 

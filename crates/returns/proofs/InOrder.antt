@@ -25,10 +25,9 @@ use Rattle.meaning.specs.Deliveries.{Delivery, bytes_if, Due}
 use Rattle.meaning.proofs.Desks.{Desk, answered, after, after_all, text_after, all_answered, at_first}
 use Rattle.meaning.proofs.OneDelivery.{Stands, answer-told}
 use Rattle.meaning.proofs.Runs.{stands_after, due-taken}
-use Rattle.lent.specs.Lent.{Lent, numbers_of}
-use Rattle.meaning.specs.Text.{columns_in, cells_in}
+use Rattle.meaning.specs.Text.{cells_in}
 use Rattle.meaning.specs.Rules.{first_breach}
-use Rattle.meaning.specs.Means.{begun_session, session_of, grid_of}
+use Rattle.meaning.specs.Means.{begun_session, session_of}
 use Rattle.meaning.proofs.EachPost.{grid-cell, past-the-sheet, length-kept}
 use Rattle.meaning.proofs.LaterVerdict.{complete-is}
 use Rattle.returns.proofs.Following.{Follows, start_by, text_to, header_at, text-length, prefix-kept, prefix-blocks, prefix-next, whole-header, whole-complete, cell-back}
@@ -62,7 +61,7 @@ in-order-more : (at : ℕ → List ℕ) (k : ℕ) → in_order at (suc k) ≡ in
 in-order-more at k = ap (map (delivery at)) (below_more k) ∙ map-append (delivery at) (below k) (k ∷ [])
 
 module _ (at : ℕ → List ℕ) (cells : ℕ → List ℤ) (row : ℕ → ℕ) (h : Header) (w : Follows at cells row h)
-    (lent : Lent) (room : cells_of h ≤ length lent.grid) (numbers : numbers_of h ≤ length lent.spans) where
+    (lent : List ℤ) (room : cells_of h ≤ length lent) where
   abbrev count : ℕ
   count = start_by cells (columns_of h)
 
@@ -72,15 +71,12 @@ module _ (at : ℕ → List ℕ) (cells : ℕ → List ℤ) (row : ℕ → ℕ) 
   due : (k : ℕ) → k < count → Due 0 (text k) lent (delivery at k)
   due k lt =
       let t = prefix-next at cells row h w k in
-      let e = header_at at cells row h w (suc k) lt (omega arith) in
-      let c : cells_in (text (suc k)) ≡ cells_of h = ap cells_of e in
-      let m : columns_in (text (suc k)) ≡ columns_of h = ap columns_of e in
+      let c : cells_in (text (suc k)) ≡ cells_of h = ap cells_of (header_at at cells row h w (suc k) lt (omega arith)) in
       record {
         next = sym (prefix-blocks at cells row h w k (omega (arith, lt)));
         block = w.long k lt;
         kept = ap (λ (l : List ℕ). (first_breach 0 l).kind) (sym t) ∙ prefix-kept at cells row h w k lt;
         room = omega (arith, ap cells_in t, c, room);
-        numbers = omega (arith, ap columns_in t, m, numbers);
       }
 
   stands : (k : ℕ) → text_after (at_first 0 lent) (in_order at k) ≡ text k → Stands 0 (text k) lent (after_all (at_first 0 lent) (in_order at k))
@@ -156,9 +152,6 @@ module _ (at : ℕ → List ℕ) (cells : ℕ → List ℤ) (row : ℕ → ℕ) 
           let e : suc (count - 1) ≡ count = omega (arith, k, some-blocks) in
           ap (λ (m : ℕ). (first_breach 0 (text m)).kind) (sym e) ∙ prefix-kept at cells row h w (count - 1) (omega (arith, e))
 
-  grid-then : text_after (at_first 0 lent) (in_order at count) ≡ text count → desk.lent.grid ≡ grid_of (text count) lent.grid
-  grid-then t = ap (λ (l : Lent). l.grid) (stands count t).lent_is
-
   -- every cell of the sheet is the one that the blocks hold
   pub each-cell : (j i : ℕ) → j < columns_of h → i < rows_of h
       → get_or desk.lent.grid (j * rows_of h + i) void ≡ cond (leb (row j) i) (get_or (cells j) (i - row j) void) void
@@ -167,20 +160,20 @@ module _ (at : ℕ → List ℕ) (cells : ℕ → List ℤ) (row : ℕ → ℕ) 
       let c : cells_in (text count) ≡ cells_of h = ap cells_of (whole-header at cells row h w) in
       let up : suc j * rows_of h ≤ columns_of h * rows_of h = mul-le-mul_right (rows_of h) lt in
       let inside : j * rows_of h + i < cells_in (text count) = omega (arith, c, up, suc-mul j (rows_of h), less) in
-      ap (λ (g : List ℤ). get_or g (j * rows_of h + i) void) (grid-then t)
-      ∙ grid-cell (text count) lent.grid (j * rows_of h + i) some-blocks inside
+      ap (λ (g : List ℤ). get_or g (j * rows_of h + i) void) (stands count t).grid-is
+      ∙ grid-cell (text count) lent (j * rows_of h + i) some-blocks inside
       ∙ cell-back at cells row h w j i lt less
 
   -- cells past the sheet are as lent, and none is added or lost
-  pub past-cells : drop (cells_of h) desk.lent.grid ≡ drop (cells_of h) lent.grid
+  pub past-cells : drop (cells_of h) desk.lent.grid ≡ drop (cells_of h) lent
   past-cells =
       let t = text-taken count (omega arith) in
       let c : cells_in (text count) ≡ cells_of h = ap cells_of (whole-header at cells row h w) in
-      ap₂ (λ (n : ℕ) (g : List ℤ). drop n g) (sym c) (grid-then t)
-      ∙ past-the-sheet (text count) lent.grid some-blocks
-      ∙ ap (λ (n : ℕ). drop n lent.grid) c
+      ap₂ (λ (n : ℕ) (g : List ℤ). drop n g) (sym c) (stands count t).grid-is
+      ∙ past-the-sheet (text count) lent some-blocks
+      ∙ ap (λ (n : ℕ). drop n lent) c
 
-  pub same_length : length desk.lent.grid ≡ length lent.grid
+  pub same_length : length desk.lent.grid ≡ length lent
   same_length =
       let t = text-taken count (omega arith) in
-      ap length (grid-then t) ∙ length-kept (text count) lent.grid (stands count t).good.room
+      ap length (stands count t).grid-is ∙ length-kept (text count) lent (stands count t).good.room

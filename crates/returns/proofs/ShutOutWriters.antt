@@ -28,8 +28,7 @@ use Rattle.numerals.specs.Numerals.{spell, count}
 use Rattle.spell.specs.Spell.{integer_text, real_fits}
 use Rattle.delivery.specs.declared.Answer.{Answer}
 use Rattle.delivery.specs.declared.Answer.TheVariants.{Taken, Held, Refused}
-use Rattle.lent.specs.Lent.{Lent}
-use Rattle.delivery.specs.Deliver.{verdict_of, deliver_of}
+use Rattle.delivery.specs.Deliver.{Lent, verdict_of, deliver_of}
 use Rattle.meaning.specs.PaperSheet.{paper_a, paper_cells}
 use Rattle.meaning.specs.Deliveries.{Delivery}
 use Rattle.meaning.proofs.Desks.{Desk, answered}

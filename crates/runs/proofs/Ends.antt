@@ -12,8 +12,7 @@ use Rattle.session.specs.declared.Session.{Session}
 use Rattle.session.specs.Session.{sound}
 use Rattle.delivery.specs.declared.Answer.{Answer}
 use Rattle.delivery.specs.declared.Answer.TheVariants.{Taken, Held, Refused}
-use Rattle.lent.specs.Lent.{Lent, room_of}
-use Rattle.delivery.specs.Deliver.{Verdict, again, wrong, begins, fills, verdict_of, answer_of, lent_by, deliver_of}
+use Rattle.delivery.specs.Deliver.{Lent, room_of, Verdict, again, wrong, begins, fills, verdict_of, answer_of, lent_by, deliver_of}
 use Rattle.runs.specs.Run.{Running, running, set_out, is_refused, counted, with_block, run_to, run_of}
 use Rattle.runs.proofs.Passed.{is_taken, unmoved}
 use Rattle.runs.proofs.RunLaws.{run_none, block_more, ended, goes_on, run-unsound}
@@ -41,7 +40,7 @@ unwritten : (s : Session) (lent : Lent) (v : Verdict) → is_taken (answer_of s 
 unwritten s lent again e = refl
 unwritten s lent (wrong kind block byte) e = refl
 unwritten s lent (begins h) e = clash e
-unwritten s lent (fills after at hs span) e = clash e
+unwritten s lent (fills after at hs) e = clash e
 
 module _ (s : Session) (number : ℕ) (blocks : List ℕ) (lent : Lent) where
   abbrev at : ℕ → Running

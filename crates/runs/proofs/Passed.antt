@@ -26,10 +26,7 @@ use Rattle.session.specs.declared.Profile.{Profile}
 use Rattle.session.specs.Session.{sound, complete, busy, open_blocks}
 use Rattle.delivery.specs.declared.Answer.{Answer}
 use Rattle.delivery.specs.declared.Answer.TheVariants.{Taken, Held, Refused}
-use Rattle.lent.specs.Lent.{Room, too_short, enough}
-use Rattle.lent.specs.declared.Span.{Span}
-use Rattle.lent.specs.declared.Span.TheVariants.{Stays}
-use Rattle.delivery.specs.Deliver.{span_of, Verdict, again, wrong, begins, fills, posts_here, filling, filled_session, close_fault, opening, later, beginning, column_fits, column_place, row_fits, row_place, first_column, opened, heights_here, further, unless, finished_session, verdict_of, answer_of}
+use Rattle.delivery.specs.Deliver.{Room, too_short, Verdict, again, wrong, begins, fills, posts_here, filling, filled_session, close_fault, opening, later, beginning, column_fits, column_place, row_fits, row_place, first_column, opened, heights_here, further, unless, finished_session, verdict_of, answer_of}
 use Rattle.runs.specs.Run.{is_refused}
 
 abbrev pub is_taken : Answer → Bool
@@ -41,14 +38,14 @@ is_taken (Refused kind block byte) = false
 abbrev TakenBy : Session → Room → Verdict → Type 0
 TakenBy s room again = ⊥
 TakenBy s room (wrong kind block byte) = Unit {0}
-TakenBy s room (begins h) = (enough room h ≡ true) × (s.taken ≡ 0)
-TakenBy s room (fills after at hs span) = (enough room after.header ≡ true) × (after.taken ≡ s.taken + 1)
+TakenBy s room (begins h) = (leb (cells_of h) room.cells ≡ true) × (s.taken ≡ 0)
+TakenBy s room (fills after at hs) = (leb (cells_of after.header) room.cells ≡ true) × (after.taken ≡ s.taken + 1)
 
 record Takes (s : Session) (room : Room) (v : Verdict) : Type 0 where
   is : TakenBy s room v
 
-not_short : (room : Room) (h : Header) → too_short room h ≡ false → enough room h ≡ true
-not_short room h e = by-test (enough room h) (λ t. t) (λ t. clash (rw t at e))
+enough : (room : Room) (h : Header) → too_short room h ≡ false → leb (cells_of h) room.cells ≡ true
+enough room h e = le-leb (cells_of h) room.cells (ltb-false room.cells (cells_of h) e)
 
 module _ (s : Session) (room : Room) where
   both : (t : Bool) {v w : Verdict} → Takes s room v → Takes s room w → Takes s room (cond t v w)
@@ -62,12 +59,12 @@ module _ (s : Session) (room : Room) where
 
   beginning-takes : s.taken ≡ 0 → (c : Checked) → Takes s room (beginning room c)
   beginning-takes z (NoSheet kind byte) = none kind 0 byte
-  beginning-takes z (Sheet h) = by-test (too_short room h) (λ e. rw e (none 12 0 0)) (λ e. rw e (record { is = (not_short room h e, z) }))
+  beginning-takes z (Sheet h) = by-test (too_short room h) (λ e. rw e (none 12 0 0)) (λ e. rw e (record { is = (enough room h e, z) }))
 
   -- a later block keeps the header
-  module _ (e : enough room s.header ≡ true) where
-    filling-takes : (number column : ℕ) (p : Profile) (span : Span) (hs : List ℤ) → Takes s room (filling s number column p span hs)
-    filling-takes number column p span hs =
+  module _ (e : leb (cells_of s.header) room.cells ≡ true) where
+    filling-takes : (number column : ℕ) (p : Profile) (hs : List ℤ) → Takes s room (filling s number column p hs)
+    filling-takes number column p hs =
         both (ltb (p.read + length hs) p.posts) (record { is = (e, refl) })
         (both (eqb (close_fault (number - open_blocks s) (filled_session s column p hs)).kind 0) (record { is = (e, refl) }) (none _ _ _))
 
@@ -77,16 +74,16 @@ module _ (s : Session) (room : Room) where
         unless-takes (posts_rest_fault 145 (min h.posts 146) block) number
         (both (column_fits s (column_place s h))
         (both (row_fits s h.posts (row_place s h))
-        (filling-takes number (first_column s h) (opened s h) (span_of s (first_column s h) (opened s h)) (heights_here s (opened s h) 145 (min h.posts 146) block)) (none 10 number 49))
+        (filling-takes number (first_column s h) (opened s h) (heights_here s (opened s h) 145 (min h.posts 146) block)) (none 10 number 49))
         (none 10 number 25))
 
     further-takes : (number : ℕ) (block : List ℕ) → Takes s room (further s number block)
     further-takes number block =
         unless-takes (posts_rest_fault 1 (posts_here s.profile 170) block) number
-        (filling-takes number s.column s.profile Stays (heights_here s s.profile 1 (posts_here s.profile 170) block))
+        (filling-takes number s.column s.profile (heights_here s s.profile 1 (posts_here s.profile 170) block))
 
-    last-takes : (number : ℕ) (block : List ℕ) → Takes s room (unless (record_c block) number (fills (finished_session s) 0 [] Stays))
-    last-takes number block = unless-takes (record_c block) number {v = fills (finished_session s) 0 [] Stays} (record { is = (e, refl) })
+    last-takes : (number : ℕ) (block : List ℕ) → Takes s room (unless (record_c block) number (fills (finished_session s) 0 []))
+    last-takes number block = unless-takes (record_c block) number {v = fills (finished_session s) 0 []} (record { is = (e, refl) })
 
     later-takes : (number : ℕ) (block : List ℕ) → Takes s room (later s number block)
     later-takes number block =
@@ -96,7 +93,7 @@ module _ (s : Session) (room : Room) where
 -- what an answer shows; a block that is due is not held
 pub record Shows (s : Session) (number : ℕ) (room : Room) (v : Verdict) : Type 0 where
   pub number_is : is_refused (answer_of s v).answer ≡ false → number ≤ s.taken
-  pub room-is : is_taken (answer_of s v).answer ≡ true → enough room (answer_of s v).session.header ≡ true
+  pub room-is : is_taken (answer_of s v).answer ≡ true → leb (cells_of (answer_of s v).session.header) room.cells ≡ true
   pub more-is : is_taken (answer_of s v).answer ≡ true → (answer_of s v).session.taken ≡ s.taken + 1
   pub due-is : number ≡ s.taken → is_refused (answer_of s v).answer ≡ false → is_taken (answer_of s v).answer ≡ true
 
@@ -111,7 +108,7 @@ module _ (s : Session) (number : ℕ) (room : Room) where
   by-verdict n again r = absurd r.is
   by-verdict n (wrong kind at byte) r = stopped kind at byte
   by-verdict n (begins h) r = record { number_is = λ e. n; room-is = λ e. r.is.0; more-is = λ e. omega (arith, r.is.1); due-is = λ d e. refl }
-  by-verdict n (fills after at hs span) r = record { number_is = λ e. n; room-is = λ e. r.is.0; more-is = λ e. r.is.1; due-is = λ d e. refl }
+  by-verdict n (fills after at hs) r = record { number_is = λ e. n; room-is = λ e. r.is.0; more-is = λ e. r.is.1; due-is = λ d e. refl }
 
   pick : (b : Bool) {v w : Verdict} → (b ≡ true → Shows s number room v) → (b ≡ false → Shows s number room w) → Shows s number room (cond b v w)
   pick true f g = f refl
@@ -138,11 +135,11 @@ module _ (s : Session) (number : ℕ) (room : Room) where
       pick (complete s) (λ c. stopped 4 number 0)
       (λ c.
       pick (too_short room s.header) (λ k. stopped 12 number 0)
-      (λ k. by-verdict n (later s number block) (later-takes s room (not_short room s.header k) number block))))))))
+      (λ k. by-verdict n (later s number block) (later-takes s room (enough room s.header k) number block))))))))
 
 -- what is not taken leaves the session
 pub unmoved : (s : Session) (v : Verdict) → is_taken (answer_of s v).answer ≡ false → (answer_of s v).session ≡ s
 unmoved s again e = refl
 unmoved s (wrong kind block byte) e = refl
 unmoved s (begins h) e = clash e
-unmoved s (fills after at hs span) e = clash e
+unmoved s (fills after at hs) e = clash e

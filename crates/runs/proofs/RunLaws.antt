@@ -14,8 +14,7 @@ use Rattle.session.specs.declared.Session.{Session}
 use Rattle.session.specs.Session.{sound}
 use Rattle.delivery.specs.declared.Answer.{Answer}
 use Rattle.delivery.specs.declared.Answer.TheVariants.{Taken, Held, Refused}
-use Rattle.lent.specs.Lent.{Lent, Room, room_of}
-use Rattle.delivery.specs.Deliver.{Verdict, wrong, verdict_of, answer_of, lent_by, deliver_of}
+use Rattle.delivery.specs.Deliver.{Lent, Room, room_of, Verdict, wrong, verdict_of, answer_of, lent_by, deliver_of}
 use Rattle.runs.proofs.Passed.{is_taken, shown, unmoved}
 use Rattle.runs.specs.Run.{Running, running, set_out, is_refused, counted, with_block, go_on, run_to, run_of}
 

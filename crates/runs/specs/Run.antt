@@ -4,8 +4,7 @@ use Rattle.ground.specs.Blocks.{block_at, blocks_in}
 use Rattle.session.specs.declared.Session.{Session}
 use Rattle.delivery.specs.declared.Answer.{Answer}
 use Rattle.delivery.specs.declared.Answer.TheVariants.{Taken, Held, Refused}
-use Rattle.lent.specs.Lent.{Lent}
-use Rattle.delivery.specs.Deliver.{deliver_of, lent_after}
+use Rattle.delivery.specs.Deliver.{Lent, deliver_of, lent_after}
 use Rattle.runs.specs.declared.Ran.{Ran}
 
 -- where a run stands: the answer so far, the session, what is lent, and how many blocks were taken or held

@@ -17,7 +17,7 @@ fn write_column(h: Header, grid: &[i32], column: usize, at: usize, out: &mut [u8
     ensures { Puts out.old at (column_text h grid.now column) out.new result × (result ≡ at + 1024 * blocks_for (length (cells_sent h grid.now column))) }
 {
     let found = census::column_of(h, grid, column);
-    let blocks = ground::blocks_for(found.posts as u64);
+    let blocks = columns::blocks_for(found.posts);
     let mut from = at;
     let mut k = 0;
     while k < blocks {

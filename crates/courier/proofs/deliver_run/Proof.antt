@@ -1,8 +1,7 @@
 -- The session that the numbers say, a run to it, what is kept and what is told: Carried has that what is kept is the session.
 use mathlib.Core.Path.{◌≡◌, ◌∙◌, ap, subst}
 use Rattle.session.specs.declared.Session.{Session}
-use Rattle.lent.specs.Lent.{lend}
-use Rattle.delivery.specs.Deliver.{answer_kind}
+use Rattle.delivery.specs.Deliver.{lend, answer_kind}
 use Rattle.delivery.proofs.SoundOut.{Idle}
 use Rattle.runs.specs.declared.Ran.{Ran}
 use Rattle.runs.specs.Run.{Running, run_of, ran_of}
@@ -35,32 +34,25 @@ same-length-2 c = search rules
 same-length-3 : tie.Need-same-length-3
 same-length-3 c = search rules
 
-same-length-4 : tie.Need-same-length-4
-same-length-4 c = search rules
-
 returns : tie.Need-returns
 returns c =
     let t = c.before.before in
     let k = t.before.before.before in
-    let d = k.before.before.before.before.before in
-    let s = d.before.before.before in
-    let a = s.before.before.before.before.before.args in
+    let d = k.before.before.before in
+    let s = d.before.before in
+    let a = s.before.before.before.before.args in
     let e = s.session-of.ensures.0 in
-    let lent = lend a.grid.now a.spans.now in
-    let ran : Session → Running = λ x. run_of x a.number a.blocks.now lent in
-    let r : d.deliver-run.result ≡ ran_of (ran_to a.numbers.now a.number a.blocks.now lent) = d.deliver-run.ensures.0 ∙ ap (λ (x : Session). ran_of (ran x)) e in
+    let ran : Session → Running = λ x. run_of x a.number a.blocks.now (lend a.grid.now) in
+    let r : d.deliver-run.result ≡ ran_of (ran_to a.numbers.now a.number a.blocks.now a.grid.now) = d.deliver-run.ensures.0 ∙ ap (λ (x : Session). ran_of (ran x)) e in
     let i = subst Idle e s.session-of.ensures.1 in (
       t.tell.ensures.0 ∙ ap (λ (x : Ran). answer_kind x.answer) r,
       (
         k.keep_taken.ensures
             ∙ (λ j. taken_kept (e j).taken (r j).session a.numbers.now)
-            ∙ carried a.numbers.now a.number a.blocks.now lent i,
+            ∙ carried a.numbers.now a.number a.blocks.now a.grid.now i,
         (
-          d.deliver-run.ensures.1.0 ∙ ap (λ (x : Session). (ran x).lent.grid) e,
-          (
-            d.deliver-run.ensures.1.1 ∙ ap (λ (x : Session). (ran x).lent.spans) e,
-            t.tell.ensures.1 ∙ ap (λ (x : Ran). handed (beside_run x.answer x.count) a.answer.now) r,
-          ),
+          d.deliver-run.ensures.1 ∙ ap (λ (x : Session). (ran x).lent.grid) e,
+          t.tell.ensures.1 ∙ ap (λ (x : Ran). handed (beside_run x.answer x.count) a.answer.now) r,
         ),
       ),
     )
@@ -76,5 +68,4 @@ deliver-run-spec =
     same_length
     same-length-2
     same-length-3
-    same-length-4
     returns)

@@ -1,10 +1,10 @@
--- Columns times rows: as many cells as the sheet has; its columns are those of the spans.
+-- Columns times rows: as many cells as the sheet has.
 use borrow.Author.Rules.{rules}
 use mathlib.Core.Path.{◌≡◌, ◌∙◌, ap₂}
 use Prim.Native.Nat.{◌*◌}
 use native.Mathlib.Omega.{arith}
 use Rattle.frame.specs.Frame.{cells_of}
-use Rattle.gate.specs.Gate.{started}
+use Rattle.gate.specs.Gate.{taken}
 use Rattle.gate.proofs.begin.Statement.{statement}
 use Rattle.gate.proofs.begin.Tie as tie
 
@@ -23,15 +23,15 @@ mul-cells c = record { fits = omega (arith, cells_are c, c.before.before.require
 begun-requires : tie.Need-begun-requires
 begun-requires c κs = search rules
 
-started-requires : tie.Need-started-requires
-started-requires c κs = search rules
+taken-requires : tie.Need-taken-requires
+taken-requires c κs = search rules
 
 returns : tie.Need-returns
 returns c =
     let k = c.before.before in
-    c.started.ensures ∙ (λ j. started (c.before.begun.ensures j) (cells_are k j) (k.before.columns.ensures j))
+    c.taken.ensures ∙ (λ j. taken (c.before.begun.ensures j) (cells_are k j) 0 0)
 
 pub begin-spec : {M : Type 1} → statement M
 begin-spec =
     tie.close
-    (tie.spec columns-requires rows-requires mul-cells begun-requires started-requires returns)
+    (tie.spec columns-requires rows-requires mul-cells begun-requires taken-requires returns)

@@ -3,12 +3,9 @@ use mathlib.Core.Path.{◌≡◌, sym, ◌∙◌}
 use native.Mathlib.Omega.{arith}
 use borrow.Author.Tests.{leb-true}
 use borrow.Author.Rules.{rules}
-use lib.Dec.{leb}
-use Rattle.laws.proofs.Tests.{and_first}
 use Rattle.frame.specs.Frame.{cells_of}
 use Rattle.sheet.specs.RecordA.{record_of}
 use Rattle.sheet.specs.declared.Checked.TheVariants.{Sheet}
-use Rattle.lent.specs.Lent.{room, numbers_of}
 use Rattle.gate.proofs.Gates.{first-bad, first_short, first_good}
 use Rattle.gate.proofs.judge_first.Statement.{statement}
 use Rattle.gate.proofs.judge_first.Tie as tie
@@ -38,16 +35,14 @@ begin-requires c κs =
     let k = c.before in
     let o = k.before.before.before.before.before.before in
     let h = k.before.before.checked2.given.0.0 in
-    let lent = room o.args.cells o.args.numbers in
-    let e = and_first (leb (cells_of h) lent.cells) (leb (numbers_of h) lent.numbers) (sym k.has_room.ensures ∙ c.if1.true) in
-    omega (arith, leb-true (cells_of h) lent.cells e, o.ranges.cells)
+    omega (arith, leb-true (cells_of h) o.args.cells (sym k.has_room.ensures ∙ c.if1.true), o.ranges.cells)
 
 returns : tie.Need-returns
 returns c =
     let k = c.before.before in
     let a = k.before.before.before.before.before.before.args in
     c.begin.ensures
-    ∙ first_good a.s (room a.cells a.numbers) (record_of a.s.family a.block.now) k.before.before.checked2.given.0.0 (sheet-is k)
+    ∙ first_good a.s a.cells (record_of a.s.family a.block.now) k.before.before.checked2.given.0.0 (sheet-is k)
     (sym k.has_room.ensures ∙ c.before.if1.true)
 
 refused-requires-2 : tie.Need-refused-requires-2
@@ -58,14 +53,14 @@ returns-2 c =
     let k = c.before.before.before.before in
     let a = k.before.before.args in
     c.refused.ensures
-    ∙ first-bad a.s (room a.cells a.numbers) (record_of a.s.family a.block.now) _ _ (sym k.check-family.ensures ∙ c.before.before.checked.given.1)
+    ∙ first-bad a.s a.cells (record_of a.s.family a.block.now) _ _ (sym k.check-family.ensures ∙ c.before.before.checked.given.1)
 
 returns-3 : tie.Need-returns-3
 returns-3 c =
     let k = c.before.before in
     let a = k.before.before.before.before.before.before.args in
     c.refused2.ensures
-    ∙ first_short a.s (room a.cells a.numbers) (record_of a.s.family a.block.now) k.before.before.checked2.given.0.0 (sheet-is k)
+    ∙ first_short a.s a.cells (record_of a.s.family a.block.now) k.before.before.checked2.given.0.0 (sheet-is k)
     (sym k.has_room.ensures ∙ c.before.if1.false)
 
 pub judge-first-spec : {M : Type 1} → statement M

@@ -11,16 +11,13 @@ slice-aggregate-settle : tie.Need-slice-aggregate-settle
 slice-aggregate-settle c = search rules
 
 settle-requires : tie.Need-settle-requires
-settle-requires c κs = (c.before.before.before.gate.ensures, refl)
+settle-requires c κs = (c.before.before.gate.ensures, refl)
 
 same_length : tie.Need-same-length
 same_length c = search rules
-
-same-length-2 : tie.Need-same-length-2
-same-length-2 c = search rules
 
 returns : tie.Need-returns
 returns c = search rules
 
 pub deliver-spec : {M : Type 1} → statement M
-deliver-spec = tie.close (tie.spec gate-requires slice-aggregate-settle settle-requires same_length same-length-2 returns)
+deliver-spec = tie.close (tie.spec gate-requires slice-aggregate-settle settle-requires same_length returns)

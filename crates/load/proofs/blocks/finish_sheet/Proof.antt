@@ -3,7 +3,6 @@ use mathlib.Core.List.{[]}
 use mathlib.Core.Path.{◌∙◌, ap}
 use native.Mathlib.Omega.{arith}
 use Rattle.profile.specs.RecordC.{record_c}
-use Rattle.lent.specs.declared.Span.TheVariants.{Stays}
 use Rattle.delivery.specs.Deliver.{fills, finished_session}
 use Rattle.progress.proofs.Counts.{goes_on}
 use Rattle.gate.specs.Gate.{judged_of, taken}
@@ -36,8 +35,8 @@ returns-2 c =
     let r = c.before.before.before.before in
     let a = r.before.before.args in
     c.taken.ensures
-    ∙ (λ j. taken ((c.before.finish-session.ensures ∙ goes_on a.s.taken _ _ (omega (arith, r.before.before.requires))) j) 0 0 Stays)
-    ∙ ap (judged_of a.s) (fault-none (record_c a.block.now) a.number (fills (finished_session a.s) 0 [] Stays) _ _ r.check-record-c.ensures c.before.before.if1.false)
+    ∙ (λ j. taken ((c.before.finish-session.ensures ∙ goes_on a.s.taken _ _ (omega (arith, r.before.before.requires))) j) 0 0 0)
+    ∙ ap (judged_of a.s) (fault-none (record_c a.block.now) a.number (fills (finished_session a.s) 0 []) _ _ r.check-record-c.ensures c.before.before.if1.false)
 
 pub finish-sheet-spec : {M : Type 1} → statement M
 finish-sheet-spec =

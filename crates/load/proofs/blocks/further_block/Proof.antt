@@ -6,7 +6,6 @@ use lib.ListN.{length}
 use Rattle.laws.proofs.Signs.{back}
 use Rattle.frame.specs.Frame.{z_of}
 use Rattle.posts.specs.Steps.{BlockScanned}
-use Rattle.lent.specs.declared.Span.TheVariants.{Stays}
 use Rattle.delivery.specs.Deliver.{filling}
 use Rattle.posts.proofs.Asking.{asks, scan-known}
 use Rattle.load.specs.Steps.{Placing}
@@ -126,7 +125,7 @@ returns-2 c =
     (record {
       judged-is =
           by-heights a.s a.s.profile 1 l.fewer-of.result a.block.now a.scratch.now after s.scan-block.result (scanned s) good (scannable s)
-          (filling a.s a.number a.s.column a.s.profile Stays)
+          (filling a.s a.number a.s.column a.s.profile)
           c.fill_step.result
           (back m.sum-filled.result m.sum-filled.type-inv ∙ m.sum-filled.ensures.0)
           c.fill_step.ensures;
@@ -134,9 +133,7 @@ returns-2 c =
           filled-lies a.s a.s.profile 1 l.fewer-of.result a.block.now a.scratch.now after s.scan-block.result (scanned s) good (scannable s)
           a.number
           a.s.column
-          Stays
-          (placing s)
-          tt;
+          (placing s);
     })
 
 pub further-block-spec : {M : Type 1} → statement M

@@ -4,7 +4,7 @@ use mathlib.Core.Path.{ap}
 use native.Mathlib.Omega.{arith}
 use borrow.Author.Tests.{ne_eqb, eq-eqb}
 use borrow.Author.Rules.{rules}
-use Rattle.load.specs.Steps.{sheet_room}
+use Rattle.frame.specs.Frame.{cells_of}
 use Rattle.load.proofs.Judged.{same-judging, later-goes-on, later-opens, later-ends, finish-lies}
 use Rattle.load.proofs.blocks.later_block.Statement.{statement}
 use Rattle.load.proofs.blocks.later_block.Tie as tie
@@ -54,7 +54,7 @@ returns-3 c =
     let o = c.before.before.before.before.before.before.before.before.before in
     let a = o.args in
     same-judging (later-ends a.s a.number a.block.now c.before.before.before.before.if1.false c.before.if2.false)
-    (record { judged-is = c.finish-sheet.ensures; lies = finish-lies a.s a.number a.block.now (sheet_room a.s.header) a.scratch.now })
+    (record { judged-is = c.finish-sheet.ensures; lies = finish-lies a.s a.number a.block.now (cells_of a.s.header) a.scratch.now })
 
 pub later-block-spec : {M : Type 1} → statement M
 later-block-spec =

@@ -5,13 +5,12 @@ use Prim.Native.Nat.{◌≤◌, ◌^◌}
 use native.Mathlib.Omega.{arith}
 use lib.IntN.{ℤ, nat_abs}
 use Rattle.laws.proofs.Signs.{back}
-use Rattle.frame.specs.Frame.{z_of}
+use Rattle.frame.specs.Frame.{z_of, cells_of}
 use Rattle.posts.specs.Steps.{BlockScanned}
-use Rattle.delivery.specs.Deliver.{span_of, opened, first_column, filling, placed, heights_here}
+use Rattle.delivery.specs.Deliver.{opened, first_column, filling, placed, heights_here}
 use lib.ListN.{length}
 use Rattle.posts.proofs.Asking.{asks, scan-known}
-use Rattle.load.specs.Steps.{sheet_room, Placeable}
-use Rattle.load.proofs.Filled.{span-room}
+use Rattle.load.specs.Steps.{Placeable}
 use Rattle.load.proofs.Judged.{Scannable, scanned-count, same-judging, opening-refused, opening-fine, by-heights, filled-lies}
 use Rattle.load.proofs.Placed.{placed-lies, opened-placing}
 use Rattle.load.proofs.blocks.open_block.Statement.{statement}
@@ -113,9 +112,7 @@ returns-2 c =
     let after = s.scan-block.new.1.1.1.1.1.0 in
     let good = m.before.before.before.if1.false in
     let p = opened a.s a.head in
-    let column = first_column a.s a.head in
-    let span = span_of a.s column p in
-    let to = filling a.s a.number column p span in
+    let to = filling a.s a.number (first_column a.s a.head) p in
     same-judging
     (opening-fine a.s a.number a.block.now l.fewer-of.result s.scan-block.result.kind s.scan-block.result.byte a.head l.fewer-of.ensures (scanned s).fault-is good)
     (record {
@@ -126,10 +123,8 @@ returns-2 c =
           (back m.sum-filled.result m.sum-filled.type-inv ∙ m.sum-filled.ensures.0)
           c.place-profile.ensures;
       lies =
-          placed-lies a.s a.number a.head (to (heights_here a.s p 145 l.fewer-of.result a.block.now)) (sheet_room a.s.header) after
-          (λ east north.
-          let at = opened-placing a.s a.number a.head l.fewer-of.result s.scan-block.result.tally m.sum-filled.result (placeable s good m.sum-filled.ensures.1) east north in
-          filled-lies a.s p 145 l.fewer-of.result a.block.now a.scratch.now after s.scan-block.result (scanned s) good (scannable s) a.number column span at (span-room a.s a.number column p at (scannable s).ready.rows-most));
+          placed-lies a.s a.number a.head (to (heights_here a.s p 145 l.fewer-of.result a.block.now)) (cells_of a.s.header) after
+          (λ east north. filled-lies a.s p 145 l.fewer-of.result a.block.now a.scratch.now after s.scan-block.result (scanned s) good (scannable s) a.number (first_column a.s a.head) (opened-placing a.s a.number a.head l.fewer-of.result s.scan-block.result.tally m.sum-filled.result (placeable s good m.sum-filled.ensures.1) east north));
     })
 
 pub open-block-spec : {M : Type 1} → statement M

@@ -2,13 +2,11 @@
 use borrow.Author.Rules.{rules}
 use mathlib.Core.Path.{◌≡◌, ◌∙◌, ap, sym}
 use mathlib.Core.Bool.{true}
-use native.Mathlib.Omega.{arith}
 use borrow.Author.Tests.{not-false, not-true}
 use Rattle.laws.proofs.Signs.{back}
 use Rattle.frame.specs.Frame.{column_place_of, row_place_of}
-use Rattle.delivery.specs.Deliver.{span_of, column_fits, column_place, row_fits, row_place, opened, opened_at, column_from, first_column, filling}
+use Rattle.delivery.specs.Deliver.{column_fits, column_place, row_fits, row_place, opened, opened_at, column_from, first_column, filling}
 use Rattle.gate.specs.Gate.{judged_of}
-use Rattle.load.specs.Steps.{Placing}
 use Rattle.load.proofs.Placed.{place-column, place-row, place-good, opened-filling, opened-placing}
 use Rattle.load.proofs.blocks.place_profile.Statement.{statement}
 use Rattle.load.proofs.blocks.place_profile.Tie as tie
@@ -84,35 +82,22 @@ from_is c =
     c.before.first-column.ensures
     ∙ ap (column_from a.s) (o.column-of.ensures ∙ ap (column_place_of a.s.header) (back a.head.x o.before.struct_told.given.1.0.1))
 
--- where the profile stands
-placing : (c : tie.After-open-profile) → Placing c.before.before.before.before.before.before.before.before.before.before.before.args.s c.before.before.before.before.before.before.before.before.before.before.before.args.number c.before.first-column.result c.open-profile.result
-placing c =
-    let o = c.before.before.before.before.before.before.before.before.before.before.before in
-    let a = o.args in
-    rw (profile-is c, from_is c)
-    (opened-placing a.s a.number a.head a.n a.u a.sum o.requires (east c.before.before.before.before.before.before) (north c.before.before))
-
-span-of-requires : tie.Need-span-of-requires
-span-of-requires c κs =
-    let k = placing c in
-    omega (arith, k.column-room, k.not_last, c.before.before.before.before.before.before.before.before.before.before.before.requires.ready.columns-most)
-
 fill-step-requires : tie.Need-fill-step-requires
 fill-step-requires c κs =
-    let p = c.before in
-    let o = p.before.before.before.before.before.before.before.before.before.before.before in
+    let o = c.before.before.before.before.before.before.before.before.before.before.before in
     let a = o.args in
-    rw (back a.sum o.ranges.sum.sfits) (rw (profile-is p) (opened-filling a.s a.number a.head a.n a.u a.sum o.requires), placing p)
+    rw (profile-is c, from_is c, back a.sum o.ranges.sum.sfits) (
+      opened-filling a.s a.number a.head a.n a.u a.sum o.requires,
+      opened-placing a.s a.number a.head a.n a.u a.sum o.requires (east c.before.before.before.before.before.before) (north c.before.before),
+    )
 
 returns-3 : tie.Need-returns-3
 returns-3 c hs e f g =
-    let w = c.before in
-    let o = w.before in
+    let o = c.before in
     let start = o.before.before.before.before.before.before.before.before.before.before.before in
     let a = start.args in
     c.fill_step.ensures hs e f (back a.sum start.ranges.sum.sfits ∙ g)
-    ∙ (λ j. judged_of a.s (filling a.s a.number (from_is o j) (profile-is o j) (w.Span-of.ensures j) hs))
-    ∙ (λ j. judged_of a.s (filling a.s a.number (first_column a.s a.head) (opened a.s a.head) (span_of a.s (from_is o j) (profile-is o j)) hs))
+    ∙ (λ j. judged_of a.s (filling a.s a.number (from_is o j) (profile-is o j) hs))
     ∙ ap (judged_of a.s) (place-good a.s a.number a.head _ (east o.before.before.before.before.before.before) (north o.before.before))
 
 pub place-profile-spec : {M : Type 1} → statement M
@@ -129,6 +114,5 @@ place-profile-spec =
     returns-2
     first-column-requires
     open-profile-requires
-    span-of-requires
     fill-step-requires
     returns-3)

@@ -5,10 +5,12 @@ use mathlib.Core.Path.{◌≡◌, refl, sym, ◌∙◌, ap}
 use Prim.Native.Nat.{◌+◌, ◌-◌, ◌^◌, ◌<◌, ◌≤◌}
 use native.Mathlib.Omega.{arith}
 use lib.ListN.{length}
+use lib.Dec.{leb}
+use Rattle.frame.specs.Frame.{cells_of}
 use Rattle.session.specs.Session.{sound}
 use Rattle.runs.specs.declared.Ran.{Ran}
 use borrow.Author.Rules.{rules}
-use Rattle.lent.specs.Lent.{lend, room_of, enough}
+use Rattle.delivery.specs.Deliver.{lend}
 use Rattle.runs.specs.Run.{run_to, set_out, is_refused}
 use Rattle.runs.proofs.RunLaws.{run_none}
 use Rattle.ground.specs.Blocks.{blocks_in}
@@ -24,13 +26,13 @@ either_end (inl a) f g = f a
 either_end (inr b) f g = g b
 
 abbrev invariant-loop : tie.invariant-loop
-invariant-loop number blocks grid₀ spans₀ scratch₀ n p₀ i₀ grid spans scratch p i =
-    Pacing (room_of (lend grid spans)) p
-    × ((standing p.ran (lend grid spans) ≡ run_to p₀.ran.session number blocks (lend grid₀ spans₀) i)
-    × (((length grid ≡ length grid₀) × (length spans ≡ length spans₀)) × ((length scratch ≡ 170) × ((i ≤ n) × (p.more ≡ true → number + i < 2 ^ 64)))))
+invariant-loop number blocks grid₀ scratch₀ n p₀ i₀ grid scratch p i =
+    Pacing (length grid) p
+    × ((standing p.ran grid ≡ run_to p₀.ran.session number blocks (lend grid₀) i)
+    × ((length grid ≡ length grid₀) × ((length scratch ≡ 170) × ((i ≤ n) × (p.more ≡ true → number + i < 2 ^ 64)))))
 
 abbrev decreases-loop : tie.decreases-loop
-decreases-loop number blocks grid₀ spans₀ scratch₀ n p₀ i₀ grid spans scratch p i = n - i
+decreases-loop number blocks grid₀ scratch₀ n p₀ i₀ grid scratch p i = n - i
 
 set-out-requires : tie.Need-set-out-requires invariant-loop decreases-loop
 set-out-requires c κs = search rules
@@ -40,20 +42,20 @@ has-room-requires c κs = search rules
 
 loop-holds : tie.Need-loop-init invariant-loop decreases-loop
 loop-holds c =
-    let o = c.before.before.before.before.before in
+    let o = c.before.before.before.before in
     let a = o.args in
     let e = c.before.set_out.ensures in
-    let g = lend a.grid.now a.spans.now in (
+    let g = a.grid.now in (
       record {
         sound-is = ap (λ (r : Ran). sound r.session) e ∙ o.requires;
-        room-is = ap (λ (r : Ran). enough (room_of g) r.session.header) e ∙ sym c.has_room.ensures;
+        room-is = ap (λ (r : Ran). leb (cells_of r.session.header) (length g)) e ∙ sym c.has_room.ensures;
         more-is = ap (λ (r : Ran). is_refused r.answer) e;
       },
       (
         ap (λ (r : Ran). standing r g) e
-            ∙ ap (λ (r : Ran). set_out r.session g) (sym e)
-            ∙ sym (run_none c.before.set_out.result.session a.number a.blocks.now g),
-        ((refl, refl), (refl, (omega arith, λ m. omega (arith, o.ranges.number)))),
+            ∙ ap (λ (r : Ran). set_out r.session (lend g)) (sym e)
+            ∙ sym (run_none c.before.set_out.result.session a.number a.blocks.now (lend g)),
+        (refl, (refl, (omega arith, λ m. omega (arith, o.ranges.number)))),
       ),
     )
 
@@ -84,52 +86,48 @@ slice-aggregate-next-block c = search rules
 
 next-block-requires : tie.Need-next-block-requires invariant-loop decreases-loop
 next-block-requires c κs =
-    let at = c.before.before.before.before.before.before in
-    let l = at.loop in
-    let o = at.before.before.before.before.before.before in
+    let l = c.before.before.before.before.before.loop in
+    let o = c.before.before.before.before.before.before.before.before.before.before in
     let blocks = o.args.blocks.now in (
       l.invariant.0,
       (
-        ap length (block-part blocks l.i) ∙ block-long blocks l.i c.before.before.before.before.before.loop-test.true,
-        (l.invariant.1.1.1.0, omega (arith, few _ o.args.number blocks (lend o.args.grid.now o.args.spans.now) (standing l.p.ran (lend l.grid l.spans)) l.i l.invariant.1.0, index-small c.before.before.before.before)),
+        ap length (block-part blocks l.i) ∙ block-long blocks l.i c.before.before.before.before.loop-test.true,
+        (l.invariant.1.1.1.0, omega (arith, few _ o.args.number blocks (lend o.args.grid.now) (standing l.p.ran l.grid) l.i l.invariant.1.0, index-small c.before.before.before)),
       ),
     )
 
 add-i : tie.Need-overflow-add-i invariant-loop decreases-loop
-add-i c = record { fits = omega (arith, index-small c.before.before.before.before.before.before.before.before.before) }
+add-i c = record { fits = omega (arith, index-small c.before.before.before.before.before.before) }
 
 loop-less : tie.Need-loop-smaller invariant-loop decreases-loop
 loop-less c = search rules
 
 loop-again : tie.Need-loop-preserved invariant-loop decreases-loop
 loop-again c =
-    let b = c.before.before.before.before in
-    let t = b.before.before.before.before.before in
-    let l = t.before.before.loop in
-    let o = t.before.before.before.before.before.before.before.before in (
+    let b = c.before.before in
+    let l = c.before.before.before.before.before.before.before.before.loop in
+    let t = c.before.before.before.before.before.before in
+    let o = t.before.before.before.before.before.before.before in (
       b.next-block.ensures.0,
       (
-        b.next-block.ensures.1.0 ∙ turned _ o.args.number o.args.blocks.now (lend o.args.grid.now o.args.spans.now) (standing l.p.ran (lend l.grid l.spans)) l.i l.invariant.1.0 (l.invariant.0.more-is ∙ ap not t.if1.true) (block-part o.args.blocks.now l.i),
-        ((search rules, search rules), (search rules, (omega (arith, t.before.loop-test.true), λ m. omega (arith, b.next-block.ensures.1.1 m)))),
+        b.next-block.ensures.1.0 ∙ turned _ o.args.number o.args.blocks.now (lend o.args.grid.now) (standing l.p.ran l.grid) l.i l.invariant.1.0 (l.invariant.0.more-is ∙ ap not t.if1.true) (block-part o.args.blocks.now l.i),
+        (search rules, (search rules, (omega (arith, t.before.loop-test.true), λ m. omega (arith, b.next-block.ensures.1.1 m)))),
       ),
     )
 
 same_length : tie.Need-same-length invariant-loop decreases-loop
 same_length c = search rules
 
-same-length-2 : tie.Need-same-length-2 invariant-loop decreases-loop
-same-length-2 c = search rules
-
 returns : tie.Need-returns invariant-loop decreases-loop
 returns c =
     let w = c.before.before in
     let l = w.loop in
     let h = w.before in
-    let o = h.before.before.before.before.before in
+    let o = h.before.before.before.before in
     let a = o.args in
-    let g = lend a.grid.now a.spans.now in
+    let g = lend a.grid.now in
     let n = blocks_in a.blocks.now in
-    let r = standing l.p.ran (lend l.grid l.spans) in
+    let r = standing l.p.ran l.grid in
     let e = ap (λ (x : Ran). x.session) h.before.set_out.ensures in
     let is : r ≡ run_to a.s a.number a.blocks.now g l.i = l.invariant.1.0 ∙ ap (λ (x : Session). run_to x a.number a.blocks.now g l.i) e in
     either_end c.before.loop-test.branch
@@ -157,5 +155,4 @@ all-blocks-spec =
     loop-less
     loop-again
     same_length
-    same-length-2
     returns)

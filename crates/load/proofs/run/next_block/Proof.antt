@@ -1,7 +1,7 @@
 -- The next block: the tests that still have to be asked, then what they leave.
 use mathlib.Core.Path.{◌≡◌, ◌∙◌, sym, ap, subst}
+use Prim.Native.Nat.{ℕ}
 use lib.ListN.{length}
-use Rattle.lent.specs.Lent.{Room, room, room_of, lend}
 use Rattle.delivery.specs.declared.Delivered.{Delivered}
 use Rattle.load.specs.declared.run.Pace.{Pace}
 use Rattle.load.specs.Steps.{Pacing, paced_by}
@@ -15,11 +15,10 @@ order-requires c κs = search rules
 
 settle-requires : tie.Need-settle-requires
 settle-requires c κs =
-    let o = c.before.before.before.before.before.before.before.before in
-    let a = o.args in
+    let o = c.before.before.before.before.before.before in
     let k = o.requires.0 in (
-      c.before.before.before.order.ensures
-          ∙ order-gate a.p.ran.session a.number a.block.now (room_of (lend a.grid.now a.spans.now)) a.p.roomy k.sound-is o.requires.1.0 k.room-is,
+      c.before.before.order.ensures
+          ∙ order-gate o.args.p.ran.session o.args.number o.args.block.now (length o.args.grid.now) o.args.p.roomy k.sound-is o.requires.1.0 k.room-is,
       o.requires.1.1.0,
     )
 
@@ -32,27 +31,19 @@ same_length c = search rules
 same-length-2 : tie.Need-same-length-2
 same-length-2 c = search rules
 
-same-length-3 : tie.Need-same-length-3
-same-length-3 c = search rules
-
 returns : tie.Need-returns
 returns c =
-    let d = c.before.before.before.before.before in
-    let o = d.before.before.before.before.before.before.before.before.before in
+    let d = c.before.before.before in
+    let o = d.before.before.before.before.before.before.before in
     let a = o.args in
     let k = o.requires.0 in
-    let left = d.settle.new.1.1.1.1.1 in
-    let lent = lend a.grid.now a.spans.now in
-    let after = lend left.0 left.1.0 in
+    let after = d.settle.new.1.1.1.1.1.0 in
     let r = c.paced.ensures ∙ ap (λ (x : Delivered). paced_by a.p.roomy a.p.ran.count x.session x.answer) d.settle.ensures.0 in
-    let q : Paced a.p.ran.session a.number a.p.ran.count a.block.now lent after c.paced.result
-    = subst (λ (x : Pace). Paced a.p.ran.session a.number a.p.ran.count a.block.now lent after x) (sym r)
-    (paced-next a.p.ran.session a.number a.p.ran.count a.block.now lent after a.p.roomy k.sound-is k.room-is d.settle.ensures.1) in
-    let grid-same : length a.grid.now ≡ length after.grid = search rules in
-    let spans-same : length a.spans.now ≡ length after.spans = search rules in
-    (subst (λ (m : Room). Pacing m c.paced.result) (λ i. room (grid-same i) (spans-same i)) q.pacing, (q.stands, q.number-most))
+    let q : Paced a.p.ran.session a.number a.p.ran.count a.block.now a.grid.now after c.paced.result
+    = subst (λ (x : Pace). Paced a.p.ran.session a.number a.p.ran.count a.block.now a.grid.now after x) (sym r)
+    (paced-next a.p.ran.session a.number a.p.ran.count a.block.now a.grid.now after a.p.roomy k.sound-is k.room-is d.settle.ensures.1) in
+    let same : length after ≡ length a.grid.now = search rules in
+    (subst (λ (n : ℕ). Pacing n c.paced.result) (sym same) q.pacing, (q.stands, q.number-most))
 
 pub next-block-spec : {M : Type 1} → statement M
-next-block-spec =
-    tie.close
-    (tie.spec order-requires settle-requires paced-requires same_length same-length-2 same-length-3 returns)
+next-block-spec = tie.close (tie.spec order-requires settle-requires paced-requires same_length same-length-2 returns)

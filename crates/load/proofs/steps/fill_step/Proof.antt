@@ -39,8 +39,8 @@ returns c hs e f g =
     let n = c.before.before.before.before in
     let a = n.before.before.args in
     c.taken.ensures
-    ∙ (λ j. taken (after_is n.before j) (n.next-cell.ensures j) a.n a.span)
-    ∙ fill_more a.s a.number a.column a.p a.span a.n a.u a.sum hs e f g c.before.if1.true
+    ∙ (λ j. taken (after_is n.before j) 0 (n.next-cell.ensures j) a.n)
+    ∙ fill_more a.s a.number a.column a.p a.n a.u a.sum hs e f g c.before.if1.true
 
 open-blocks-requires : tie.Need-open-blocks-requires
 open-blocks-requires c κs = search rules
@@ -66,7 +66,7 @@ returns-2 c hs e f g =
     let k = c.before.before.before in
     let a = k.before.before.before.before.before.before.before.args in
     c.refused.ensures
-    ∙ fill-broken a.s a.number a.column a.p a.span a.n a.u a.sum hs e f g k.before.before.if1.false k.close-fault.result (fault-is k) c.before.if2.true
+    ∙ fill-broken a.s a.number a.column a.p a.n a.u a.sum hs e f g k.before.before.if1.false k.close-fault.result (fault-is k) c.before.if2.true
 
 close-session-requires : tie.Need-close-session-requires
 close-session-requires c κs = search rules
@@ -87,8 +87,8 @@ returns-3 c hs e f g =
     let n = k.before.before.before.before.before in
     let a = n.before.before.args in
     c.taken2.ensures
-    ∙ (λ j. taken ((c.before.close-session.ensures ∙ closed_is n.before) j) (n.next-cell.ensures j) a.n a.span)
-    ∙ fill-last a.s a.number a.column a.p a.span a.n a.u a.sum hs e f g k.before.before.if1.false k.close-fault.result (fault-is k) c.before.before.if2.false
+    ∙ (λ j. taken ((c.before.close-session.ensures ∙ closed_is n.before) j) 0 (n.next-cell.ensures j) a.n)
+    ∙ fill-last a.s a.number a.column a.p a.n a.u a.sum hs e f g k.before.before.if1.false k.close-fault.result (fault-is k) c.before.before.if2.false
 
 pub fill-step-spec : {M : Type 1} → statement M
 fill-step-spec =

@@ -1,2 +1,0 @@
-pub mod Objections
-pub mod OneAnswer
