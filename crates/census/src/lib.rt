@@ -1,3 +1,4 @@
+#![tactic(auto)]
 // The grid column by column: how many blocks there are, and which column's profile has one. Document 01, "Writing".
 ghost use Rattle.std.specs.Prelude.{◌≡◌, true, ◌+◌, ◌*◌, ◌≤◌, length};
 ghost use Rattle.written.specs.Cells.{column_at, first_row, profile_cells, start_at};

@@ -1,3 +1,4 @@
+#![tactic(auto)]
 // What the writer has to know of the grid before it writes a byte: document 01, "Writing".
 pub mod judging;
 

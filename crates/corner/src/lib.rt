@@ -1,3 +1,4 @@
+#![tactic(auto)]
 // The south-west corner in degrees, minutes and seconds: document 02, request 2.
 ghost use Rattle.std.specs.Prelude.{◌≡◌, ◌≤◌, ◌<◌, ◌^◌, nat_abs};
 ghost use Rattle.laws.specs.Sign.{signed};

@@ -1,3 +1,4 @@
+#![tactic(auto)]
 // A run of blocks to a session kept as numbers by a caller in C: document 02, request 3.
 ghost use Rattle.std.specs.Prelude.{◌≡◌};
 ghost use Rattle.delivery.specs.Deliver.{answer_kind};

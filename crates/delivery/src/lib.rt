@@ -1,3 +1,4 @@
+#![tactic(auto)]
 // What a delivery answers: document 01. The definitions stand in specs/; here are the types that they name.
 use session::Session;
 

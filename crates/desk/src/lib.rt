@@ -1,3 +1,4 @@
+#![tactic(auto)]
 // The calls of the desk program in C: include/desk.h names the same types. Each is thin over a proved function.
 ghost use Rattle.std.specs.Prelude.{◌≡◌, length};
 ghost use Rattle.number.specs.Integer.{integer};

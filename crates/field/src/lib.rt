@@ -1,3 +1,4 @@
+#![tactic(auto)]
 // A field of a block: its bytes, its limits, and the one place where a reading at a byte becomes a fault.
 ghost use Rattle.std.specs.Prelude.{◌≡◌, take, drop};
 ghost use Rattle.laws.specs.Texts.{every};

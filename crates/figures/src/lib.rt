@@ -1,3 +1,4 @@
+#![tactic(auto)]
 // Choices and tests on whole numbers that every floor uses. Nothing here knows the format.
 ghost use Rattle.std.specs.Prelude.{◌≡◌, true, cond, min};
 ghost use Rattle.laws.specs.Sign.{◌and◌, implies, is_zero, same_z, not_negative, lesser, greater};

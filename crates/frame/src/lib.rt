@@ -1,3 +1,4 @@
+#![tactic(auto)]
 // A sheet's frame: its corners, the lattices they span, and the rules over the whole record. Document 01, "Record A".
 ghost use Rattle.std.specs.Prelude.{◌≡◌, leb};
 ghost use Rattle.std.specs.Int.Signed.{lt_z};

@@ -1,3 +1,4 @@
+#![tactic(auto)]
 // The first tests of a delivery, and block 0: document 01, "What a delivery answers".
 pub mod verdict;
 

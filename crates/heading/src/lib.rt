@@ -1,3 +1,4 @@
+#![tactic(auto)]
 // What a sheet's header must obey: record A's limits, each by its name. Document 01, "Record A".
 ghost use Rattle.std.specs.Prelude.{◌≡◌, ◌<◌, get_or};
 ghost use Rattle.heading.specs.Heading.{zone_limits, ground_limits, height_limits, limits_at, family_limits_at, is_real_number, corner_real, fields_obey, reals_obey, header_obeys, canadian_fields, family_obeys, zero_corner, zero_header};

@@ -1,3 +1,4 @@
+#![tactic(auto)]
 // The origin's number and the sheet's name: document 01, "Record A"; origins of Canadian sheets: document 02, request 2.
 ghost use Rattle.std.specs.Prelude.{◌≡◌, ◌≤◌, length, take, drop};
 ghost use Rattle.laws.specs.Texts.{same};

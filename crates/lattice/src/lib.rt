@@ -1,3 +1,4 @@
+#![tactic(auto)]
 // The lattice of a sheet, over spacings in billionths: document 01, "Record A".
 ghost use Rattle.std.specs.Prelude.{◌≡◌, true, ◌+◌, ◌<◌, ◌≤◌, ◌^◌, leb, ◌-ℤ◌};
 ghost use Rattle.lattice.specs.Lattice.{is_real, empty_lattice, many_from, place_within, lattice_of, place_of, place_number};

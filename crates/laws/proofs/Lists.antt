@@ -25,6 +25,7 @@ below_more k =
     ap below e ∙ from-append 0 k 1 ∙ ap (λ (i : ℕ). below k ++ (i ∷ [])) z
 
 pub from_at : (a n i d : ℕ) → i < n → get_or (from a n) i d ≡ a + i
+from_at a zero i d h = elim h [ ]
 from_at a (suc n) zero d h = sym (add-zero a)
 from_at a (suc n) (suc i) d h = from_at (suc a) n i d (omega (arith, h)) ∙ (omega arith)
 

@@ -27,7 +27,7 @@ negated_fits n h = record { sfits = subst⁻¹ (λ (z : ℤ). mag z < 2 ^ 63) (n
 
 -- a number read back from the bits that carry it
 pub back : (z : ℤ) → mag z < 2 ^ 63 → to_z w64 (of_z w64 z) ≡ z
-back z h = to_z-of_z (record { sfits = h })
+back z h = to_z-of_z {w = w64} (record { sfits = h })
 
 -- what a call gave for a number, both read back
 pub read_back : {w : Width} (f : ℤ → ℤ) {v r : ℤ} → SFits w v → SFits w r → r ≡ f (to_z w (of_z w v)) → to_z w (of_z w r) ≡ f v

@@ -1,3 +1,4 @@
+#![tactic(auto)]
 // A session kept as numbers by a caller in C, and what is asked of it: deliveries, soundness, completeness, the lister's lines.
 mod reading;
 mod row;

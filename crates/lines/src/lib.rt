@@ -1,3 +1,4 @@
+#![tactic(auto)]
 // The lister's lines: document 01, "The lister, and one sheet". A text is built in a scratch array, then given to the lent bytes.
 mod pieces;
 

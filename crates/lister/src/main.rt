@@ -1,3 +1,4 @@
+#![tactic(auto)]
 // Lists a sheet: document 01, "The lister, and one sheet". "The lister .. lends 15,000 cells."
 ghost use Rattle.listing.specs.Turns.{Fetched, Listed, Lists};
 

@@ -1,3 +1,4 @@
+#![tactic(auto)]
 // What the listers have in common: bytes of the input delivered, and what document 01 prints at last. They read and write themselves.
 ghost use Rattle.std.specs.Prelude.{◌≡◌};
 ghost use Rattle.lines.specs.Lines.{Given};

@@ -1,3 +1,4 @@
+#![tactic(auto)]
 // Blocks by number into a lent grid: document 01, "What a delivery answers". A delivery is judged, which reads, then applied, which writes.
 mod blocks;
 mod run;

@@ -1,1 +1,2 @@
+#![tactic(auto)]
 // No code: the meaning of a text of whole blocks, and demand 3.

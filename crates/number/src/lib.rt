@@ -1,3 +1,4 @@
+#![tactic(auto)]
 // Number fields, read exactly: document 01, "Number fields". No floating point anywhere.
 mod decimal;
 mod walk;

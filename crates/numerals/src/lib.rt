@@ -1,3 +1,4 @@
+#![tactic(auto)]
 // Decimal digits, and the pieces of a text put one after another. A piece that does not fit changes nothing, and ends where it starts.
 ghost use Rattle.std.specs.Prelude.{[], ◌∷◌, ◌≡◌, ◌+◌, ◌≤◌, ◌<◌, ◌^◌, leb, ltb, length};
 ghost use Rattle.laws.specs.Digits.{places, short};

@@ -1,3 +1,4 @@
+#![tactic(auto)]
 // The blocks of one profile: document 01, "Writing". A field is lent its stretch of the block and no more, and a number that does not fit
 // leaves it as it was; the rest is blanked.
 ghost use Rattle.std.specs.Prelude.{[], ◌∷◌, ◌≡◌, ◌+◌, ◌*◌, ◌-◌, ◌≤◌, leb, length};

@@ -1,3 +1,4 @@
+#![tactic(auto)]
 // A block's posts, judged and turned into heights in a scratch before a cell is written; and the writes to lent cells.
 ghost use Rattle.std.specs.Prelude.{◌≡◌, ◌++◌, ◌+◌, ◌^◌, ◌≤◌, leb, nat_abs, length, take, drop, replicate};
 ghost use Rattle.std.proofs.lemmas.List.Edits.{sets};

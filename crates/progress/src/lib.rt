@@ -1,3 +1,4 @@
+#![tactic(auto)]
 // The session after a block: its counts, its extremes, its sum and its open profile. Whether the block is good is asked elsewhere.
 ghost use Rattle.std.specs.Prelude.{◌≡◌, cond};
 ghost use Rattle.ground.specs.Posts.{merged};

@@ -1,3 +1,4 @@
+#![tactic(auto)]
 // Runs a recorded line of deliveries: docs/MANUAL.md, "Looking at a recorded line". Input, one call, output.
 mod output;
 

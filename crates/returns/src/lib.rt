@@ -1,1 +1,2 @@
+#![tactic(auto)]
 // No code: what the writer sends reads back as the cells it was given.

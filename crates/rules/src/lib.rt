@@ -1,3 +1,4 @@
+#![tactic(auto)]
 // The rules over a whole profile: where it stands, and what closes it. Document 01, "Record B".
 ghost use Rattle.std.specs.Prelude.{◌≡◌, ◌+◌, eqb};
 ghost use Rattle.laws.specs.Sign.{same_z};

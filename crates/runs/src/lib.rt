@@ -1,3 +1,4 @@
+#![tactic(auto)]
 // What a run of blocks answers: document 02, request 3. The definitions stand in specs/; here is the type that they name.
 use delivery::Answer;
 use session::Session;

@@ -1,3 +1,4 @@
+#![tactic(auto)]
 // What the bytes of a script say. Here because nothing of it needs a session or a delivery; `replay` reads the bytes and goes by the answers.
 ghost use Rattle.std.specs.Prelude.{◌≡◌};
 ghost use Rattle.words.specs.Words.{number_at};

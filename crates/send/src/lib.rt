@@ -1,3 +1,4 @@
+#![tactic(auto)]
 // Sheets written from a lent grid: document 01, "Writing".
 mod one_block;
 mod whole_sheet;

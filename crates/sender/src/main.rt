@@ -1,3 +1,4 @@
+#![tactic(auto)]
 // Sends a sheet made of a template and cells: docs/MANUAL.md, "Sending a sheet". Input, the writer's calls, output.
 mod input;
 mod output;

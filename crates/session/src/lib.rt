@@ -1,3 +1,4 @@
+#![tactic(auto)]
 // The session of a sheet that is being loaded: document 01, "What a delivery answers".
 mod clauses;
 mod zero;

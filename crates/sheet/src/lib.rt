@@ -1,3 +1,4 @@
+#![tactic(auto)]
 // Record A judged whole: document 01, "Record A (block 0)", and 02, request 2. The table of fields stands in arrays, one entry for each row.
 ghost use Rattle.std.specs.Prelude.{true, ◌≡◌, ◌<◌, ◌≤◌, length};
 ghost use Rattle.laws.specs.Family.{known, is_canadian};

@@ -1,3 +1,4 @@
+#![tactic(auto)]
 // An integer field of six bytes, as every post is, read from its last byte back in six written steps; what it answers is number's integer. From the
 // end nobody sees which byte first makes a form impossible: a field in which no number is found so is read again from its first byte.
 ghost use Rattle.std.specs.Prelude.{◌≡◌, ◌<◌, ◌^◌, length};

@@ -1,3 +1,4 @@
+#![tactic(auto)]
 // What a C call tells beside its result: some numbers into a lent slice, as many as it has room for.
 ghost use Rattle.std.specs.Prelude.{◌≡◌, min};
 ghost use Rattle.slip.specs.Slip.{handed};

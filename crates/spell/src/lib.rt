@@ -1,3 +1,4 @@
+#![tactic(auto)]
 // Number fields, written exactly: document 01, "Writing". An integer's bytes go straight into the field, from the right; a real's text is built in
 // a scratch array, then placed at the field's right end.
 ghost use Rattle.std.specs.Prelude.{cond, ◌∷◌, ◌++◌, ◌≡◌, ◌+◌, ◌≤◌, ◌<◌, ◌^◌, leb, nat_abs, pos, length, get_or, replicate};

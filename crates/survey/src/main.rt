@@ -1,3 +1,4 @@
+#![tactic(auto)]
 // Lists a sheet as the lister does, with the cells of a whole 1201 × 1201 sheet lent: 5.8 MB of the stack's 8.
 ghost use Rattle.listing.specs.Turns.{Fetched, Listed, Lists};
 

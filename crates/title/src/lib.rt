@@ -1,3 +1,4 @@
+#![tactic(auto)]
 // Block 0 written anew: document 01, "Writing". Its stretches stand in arrays, one entry for each, in the order of record A's table.
 ghost use Rattle.std.specs.Prelude.{◌≡◌, ◌<◌, length};
 ghost use Rattle.title.specs.Title.{zero_after, title_after};

@@ -1,3 +1,4 @@
+#![tactic(auto)]
 // Numbers of four bytes, largest byte first, as the programs' inputs hold them: at any place of any text, its end followed by zeros.
 ghost use Rattle.std.specs.Prelude.{◌≡◌, ◌+◌, ◌<◌, ◌^◌, get_or};
 ghost use Rattle.words.specs.Words.{number_of, number_at, twos, cell_at};

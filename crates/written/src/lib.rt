@@ -1,3 +1,4 @@
+#![tactic(auto)]
 // No code: what the blocks of a sheet say when it is written, for the writer and for reading back. The definitions stand in specs/; here is
 // the type of the writer's answer.
 
