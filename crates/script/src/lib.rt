@@ -19,6 +19,7 @@ pub enum Head {
     Bad,
 }
 
+#[tactic(auto, unfolding(crate::specs::Script::count_from))]
 fn count_from(got: usize, cells: u64) -> Cells
     ensures { result ≡ count_from got cells }
 {
@@ -38,6 +39,7 @@ pub fn cells_of(text: &[u8; 4], got: usize) -> Cells
     count_from(got, words::number_at(text, 0))
 }
 
+#[tactic(auto, unfolding(crate::specs::Script::head_from))]
 fn head_from(got: usize, cells: usize, lent: u64, number: u64, bytes: u64) -> Head
     ensures { result ≡ head_from got cells lent number bytes }
 {
