@@ -1,5 +1,5 @@
 #![tactic(auto)]
-// The calls of the desk program in C: include/desk.h names the same types. Each is thin over a proved function.
+// The calls of the desk program in C: include/desk.h names the same types. Each is thin over a proved function; desk_c gives them to C.
 ghost use Rattle.std.specs.Prelude.{◌≡◌, length};
 ghost use Rattle.number.specs.Integer.{integer};
 ghost use Rattle.number.specs.Real.{real};
@@ -18,8 +18,7 @@ use sheet::Checked;
 use written::Sent;
 
 // 0, or document 01's number of the refusal.
-#[unsafe(no_mangle)]
-pub extern "C" fn dem_integer_kind(field: &[u8]) -> u32
+pub fn dem_integer_kind(field: &[u8]) -> u32
     ensures { result ≡ (integer field.now).kind }
 {
     let r = number::read_integer(field);
@@ -27,8 +26,7 @@ pub extern "C" fn dem_integer_kind(field: &[u8]) -> u32
 }
 
 // 0 where the field is refused.
-#[unsafe(no_mangle)]
-pub extern "C" fn dem_integer_value(field: &[u8]) -> i64
+pub fn dem_integer_value(field: &[u8]) -> i64
     ensures { result ≡ (integer field.now).value }
 {
     let r = number::read_integer(field);
@@ -36,8 +34,7 @@ pub extern "C" fn dem_integer_value(field: &[u8]) -> i64
 }
 
 // The byte of a field of wrong form, counted from 1, that first makes its form impossible; 0 for every other kind.
-#[unsafe(no_mangle)]
-pub extern "C" fn dem_integer_byte(field: &[u8]) -> u32
+pub fn dem_integer_byte(field: &[u8]) -> u32
     ensures { result ≡ (integer field.now).byte }
 {
     let r = number::read_integer(field);
@@ -45,8 +42,7 @@ pub extern "C" fn dem_integer_byte(field: &[u8]) -> u32
 }
 
 // 0, or document 01's number of the refusal.
-#[unsafe(no_mangle)]
-pub extern "C" fn dem_real_kind(field: &[u8]) -> u32
+pub fn dem_real_kind(field: &[u8]) -> u32
     ensures { result ≡ (real field.now).kind }
 {
     let r = number::read_real(field);
@@ -54,8 +50,7 @@ pub extern "C" fn dem_real_kind(field: &[u8]) -> u32
 }
 
 // In billionths; 0 where the field is refused.
-#[unsafe(no_mangle)]
-pub extern "C" fn dem_real_value(field: &[u8]) -> i64
+pub fn dem_real_value(field: &[u8]) -> i64
     ensures { result ≡ (real field.now).value }
 {
     let r = number::read_real(field);
@@ -63,8 +58,7 @@ pub extern "C" fn dem_real_value(field: &[u8]) -> i64
 }
 
 // As `dem_integer_byte`.
-#[unsafe(no_mangle)]
-pub extern "C" fn dem_real_byte(field: &[u8]) -> u32
+pub fn dem_real_byte(field: &[u8]) -> u32
     ensures { result ≡ (real field.now).byte }
 {
     let r = number::read_real(field);
@@ -72,8 +66,7 @@ pub extern "C" fn dem_real_byte(field: &[u8]) -> u32
 }
 
 // 0, or the number of the first rule of a family's record A that the block breaks; 2 for a family that there is none of.
-#[unsafe(no_mangle)]
-pub extern "C" fn dem_family_record_a_kind(family: u32, block: &[u8]) -> u32
+pub fn dem_family_record_a_kind(family: u32, block: &[u8]) -> u32
     ensures { result ≡ checked_kind (record_of family block.now) }
 {
     match sheet::check_family(family as u64, block) {
@@ -83,8 +76,7 @@ pub extern "C" fn dem_family_record_a_kind(family: u32, block: &[u8]) -> u32
 }
 
 // The byte where that rule stands, counted from 1; 0 where none is broken, and for kinds 1 and 2.
-#[unsafe(no_mangle)]
-pub extern "C" fn dem_family_record_a_byte(family: u32, block: &[u8]) -> u32
+pub fn dem_family_record_a_byte(family: u32, block: &[u8]) -> u32
     ensures { result ≡ checked_byte (record_of family block.now) }
 {
     match sheet::check_family(family as u64, block) {
@@ -94,39 +86,34 @@ pub extern "C" fn dem_family_record_a_byte(family: u32, block: &[u8]) -> u32
 }
 
 // The same of a USGS sheet.
-#[unsafe(no_mangle)]
-pub extern "C" fn dem_record_a_kind(block: &[u8]) -> u32
+pub fn dem_record_a_kind(block: &[u8]) -> u32
     ensures { result ≡ checked_kind (record_a block.now) }
 {
     dem_family_record_a_kind(0, block)
 }
 
-#[unsafe(no_mangle)]
-pub extern "C" fn dem_record_a_byte(block: &[u8]) -> u32
+pub fn dem_record_a_byte(block: &[u8]) -> u32
     ensures { result ≡ checked_byte (record_a block.now) }
 {
     dem_family_record_a_byte(0, block)
 }
 
 // Its number among the family's origins, or 0 for any other text, length or family.
-#[unsafe(no_mangle)]
-pub extern "C" fn dem_family_origin(family: u32, block: &[u8]) -> u32
+pub fn dem_family_origin(family: u32, block: &[u8]) -> u32
     ensures { result ≡ family_origin family block.now }
 {
     label::family_origin(family as u64, block)
 }
 
 // 1 to 6, or 0 for any other text or length.
-#[unsafe(no_mangle)]
-pub extern "C" fn dem_origin(block: &[u8]) -> u32
+pub fn dem_origin(block: &[u8]) -> u32
     ensures { result ≡ origin_of block.now }
 {
     label::origin(block)
 }
 
 // How many bytes of the block, from its first, are the sheet's name.
-#[unsafe(no_mangle)]
-pub extern "C" fn dem_name_length(block: &[u8]) -> usize
+pub fn dem_name_length(block: &[u8]) -> usize
     ensures { result ≡ name_length block.now }
 {
     let name = label::name(block);
@@ -134,16 +121,14 @@ pub extern "C" fn dem_name_length(block: &[u8]) -> usize
 }
 
 // A fresh session for sheets of a family, whatever its number: 0, or 12 and nothing changed where there are too few numbers.
-#[unsafe(no_mangle)]
-pub extern "C" fn dem_open(family: u32, session: &mut [i64]) -> u32
+pub fn dem_open(family: u32, session: &mut [i64]) -> u32
     ensures { (result ≡ open_kind session.old) × (session.new ≡ opened_with (opened family) session.old) }
 {
     ledger::open(family, session)
 }
 
 // One delivery: 0 taken, 255 held, else document 01's kind; beside it block and byte. Only a taken block changes session and grid.
-#[unsafe(no_mangle)]
-pub extern "C" fn dem_deliver(
+pub fn dem_deliver(
     session: &mut [i64],
     number: u32,
     block: &[u8],
@@ -156,8 +141,7 @@ pub extern "C" fn dem_deliver(
 }
 
 // Several blocks in one call: as single deliveries in order, up to the first refusal; beside block and byte how many were taken or held.
-#[unsafe(no_mangle)]
-pub extern "C" fn dem_deliver_run(
+pub fn dem_deliver_run(
     session: &mut [i64],
     number: u32,
     blocks: &[u8],
@@ -175,23 +159,20 @@ fn one_if(b: bool) -> u32
     if b { 1 } else { 0 }
 }
 
-#[unsafe(no_mangle)]
-pub extern "C" fn dem_is_sound(session: &[i64]) -> u32
+pub fn dem_is_sound(session: &[i64]) -> u32
     ensures { result ≡ one_if (sound_said session.now) }
 {
     one_if(ledger::is_sound(session))
 }
 
-#[unsafe(no_mangle)]
-pub extern "C" fn dem_is_complete(session: &[i64]) -> u32
+pub fn dem_is_complete(session: &[i64]) -> u32
     ensures { result ≡ one_if (complete_said session.now) }
 {
     one_if(ledger::is_complete(session))
 }
 
 // The columns and rows of a record A's sheet, so that a caller knows how large a grid to lend; 0 where it is refused.
-#[unsafe(no_mangle)]
-pub extern "C" fn dem_family_columns(family: u32, block: &[u8]) -> u64
+pub fn dem_family_columns(family: u32, block: &[u8]) -> u64
     ensures { result ≡ columns_checked (record_of family block.now) }
 {
     match sheet::check_family(family as u64, block) {
@@ -200,8 +181,7 @@ pub extern "C" fn dem_family_columns(family: u32, block: &[u8]) -> u64
     }
 }
 
-#[unsafe(no_mangle)]
-pub extern "C" fn dem_family_rows(family: u32, block: &[u8]) -> u64
+pub fn dem_family_rows(family: u32, block: &[u8]) -> u64
     ensures { result ≡ rows_checked (record_of family block.now) }
 {
     match sheet::check_family(family as u64, block) {
@@ -210,23 +190,20 @@ pub extern "C" fn dem_family_rows(family: u32, block: &[u8]) -> u64
     }
 }
 
-#[unsafe(no_mangle)]
-pub extern "C" fn dem_columns(block: &[u8]) -> u64
+pub fn dem_columns(block: &[u8]) -> u64
     ensures { result ≡ columns_checked (record_a block.now) }
 {
     dem_family_columns(0, block)
 }
 
-#[unsafe(no_mangle)]
-pub extern "C" fn dem_rows(block: &[u8]) -> u64
+pub fn dem_rows(block: &[u8]) -> u64
     ensures { result ≡ rows_checked (record_a block.now) }
 {
     dem_family_rows(0, block)
 }
 
 // How many blocks a template and grid have; 0 where they are refused.
-#[unsafe(no_mangle)]
-pub extern "C" fn dem_block_count(template: &[u8], grid: &[i32]) -> u64
+pub fn dem_block_count(template: &[u8], grid: &[i32]) -> u64
     ensures { result ≡ count_of template.now grid.now }
 {
     send::block_count(template, grid)
@@ -248,8 +225,7 @@ fn tell(sent: Sent, answer: &mut [u64]) -> u32
     }
 }
 
-#[unsafe(no_mangle)]
-pub extern "C" fn dem_write_block(
+pub fn dem_write_block(
     template: &[u8],
     grid: &[i32],
     number: u32,
@@ -263,8 +239,7 @@ pub extern "C" fn dem_write_block(
 }
 
 // The whole sheet into `out`, which has exactly block count × 1,024 bytes; 1 with 0 else, after all other refusals.
-#[unsafe(no_mangle)]
-pub extern "C" fn dem_write_sheet(
+pub fn dem_write_sheet(
     template: &[u8],
     grid: &[i32],
     out: &mut [u8],
@@ -277,8 +252,7 @@ pub extern "C" fn dem_write_sheet(
 }
 
 // The lister's four lines of a complete session; 0, and nothing changed, for any other or where they do not fit.
-#[unsafe(no_mangle)]
-pub extern "C" fn dem_report(session: &[i64], out: &mut [u8]) -> usize
+pub fn dem_report(session: &[i64], out: &mut [u8]) -> usize
     ensures { Given (report_said session.now) out.old out.new result }
 {
     ledger::report(session, out)

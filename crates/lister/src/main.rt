@@ -2,9 +2,13 @@
 // Lists a sheet: document 01, "The lister, and one sheet". "The lister .. lends 15,000 cells."
 ghost use Rattle.listing.specs.Turns.{Fetched, Listed, Lists};
 
-use libc::{STDIN_FILENO, STDOUT_FILENO};
 use listing::{MORE, Turn};
 use session::Session;
+
+// The open files that a program is begun with.
+const STDIN_FILENO: i32 = 0;
+
+const STDOUT_FILENO: i32 = 1;
 
 // The next bytes of the input, however a pipe cuts it up: as many as there is room for, and fewer only at its end.
 fn fetch(s: Session, bytes: &mut [u8], grid: &mut [i32]) -> Turn

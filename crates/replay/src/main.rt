@@ -6,9 +6,11 @@ ghost use Rattle.std.specs.Prelude.{◌≡◌, length};
 ghost use Rattle.script.specs.Script.{Within};
 ghost use Rattle.replay.specs.Turns.{Ready, Delivers};
 
-use libc::STDIN_FILENO;
 use script::{Cells, Head};
 use session::Session;
+
+// The open file that a program reads.
+const STDIN_FILENO: i32 = 0;
 
 // Where a script stands.
 const MORE: u8 = 0;

@@ -1,7 +1,9 @@
 // The lines that replay writes.
 use delivery::Answer;
-use libc::STDOUT_FILENO;
 use session::Session;
+
+// The open file that a program writes to.
+const STDOUT_FILENO: i32 = 1;
 
 pub(crate) fn write_word(word: &[u8]) {
     io::write_all(STDOUT_FILENO, word);

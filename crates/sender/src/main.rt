@@ -8,8 +8,10 @@ ghost use Rattle.written.specs.Sending.{sheet_after};
 ghost use Rattle.sender.specs.Input.{cells_from, bytes_of};
 
 use input::Cells;
-use libc::STDIN_FILENO;
 use written::Sent;
+
+// The open file that a program reads.
+const STDIN_FILENO: i32 = 0;
 
 // The most bytes of a sheet of 15,000 cells: block 0 and one for each of 2,048 columns. Where a column needs more than one, it has more than
 // 146 rows, and the columns are so few that the blocks are fewer in all.

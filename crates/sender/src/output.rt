@@ -1,5 +1,7 @@
 // What sender writes.
-use libc::STDOUT_FILENO;
+
+// The open file that a program writes to.
+const STDOUT_FILENO: i32 = 1;
 
 pub(crate) fn write_bytes(bytes: &[u8]) {
     io::write_all(STDOUT_FILENO, bytes);

@@ -2,9 +2,13 @@
 // Lists a sheet as the lister does, with the cells of a whole 1201 × 1201 sheet lent: 5.8 MB of the stack's 8.
 ghost use Rattle.listing.specs.Turns.{Fetched, Listed, Lists};
 
-use libc::{STDIN_FILENO, STDOUT_FILENO};
 use listing::{MORE, Turn};
 use session::Session;
+
+// The open files that a program is begun with.
+const STDIN_FILENO: i32 = 0;
+
+const STDOUT_FILENO: i32 = 1;
 
 // The next bytes of the input, however a pipe cuts it up: as many as there is room for, and fewer only at its end.
 fn fetch(s: Session, bytes: &mut [u8], grid: &mut [i32]) -> Turn
