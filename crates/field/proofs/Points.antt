@@ -65,18 +65,25 @@ forms-joined (next f fs) = forms-append f (forms-joined fs)
 not_spared : (r : Reading) → (spared 6 r ≡ true → ⊥) → r.kind ≡ 6
 not_spared r b = by-test (eqb r.kind 6) (eqb-true r.kind 6) (λ e. absurd (b (rw e)))
 
-pub first-points : {block : List ℕ} {c : Clause} {cs : List Clause} → Forms cs → FirstBroken block c cs → c.kind ≡ 6
+points-head : {block : List ℕ} {c : Clause} {cs : List Clause} → Forms (c ∷ cs) → (c.kept block ≡ true → ⊥) → c.kind ≡ 6
     → PointsAt block c (c.byte block)
-first-points (other {c} e f) (here b) k = absurd (eqb-false c.kind 6 e k)
-first-points {block} (integers first width f) (here b) k =
+points-head (other {c} e f) b k = absurd (eqb-false c.kind 6 e k)
+points-head {block} (integers first width f) b k =
     let s = stretch first width block in
     in-integer first width (integer s).byte (integer-points s (not_spared (integer s) b))
-first-points {block} (reals first width f) (here b) k =
+points-head {block} (reals first width f) b k =
     let s = stretch first width block in
     in-real first width (real s).byte (real-points s (not_spared (real s) b))
-first-points (other e f) (later h b) k = first-points f b k
-first-points (integers first width f) (later h b) k = first-points f b k
-first-points (reals first width f) (later h b) k = first-points f b k
+
+forms-behind : {c : Clause} {cs : List Clause} → Forms (c ∷ cs) → Forms cs
+forms-behind (other e f) = f
+forms-behind (integers first width f) = f
+forms-behind (reals first width f) = f
+
+pub first-points : {block : List ℕ} {c : Clause} {cs : List Clause} → Forms cs → FirstBroken block c cs → c.kind ≡ 6
+    → PointsAt block c (c.byte block)
+first-points f (here b) k = points-head f b k
+first-points f (later h b) k = first-points (forms-behind f) b k
 
 module _ {block : List ℕ} {cs : List Clause} (forms : Forms cs) where
   pub broken-pointed : {c : Clause} {y : ℕ} → FirstBroken block c cs → c.kind ≡ 6 → c.byte block ≡ y → Pointed block cs y

@@ -11,14 +11,14 @@ ghost use Rattle.field.specs.Steps.{is_byte};
 use number::Reading;
 
 // A broken rule: its kind and byte. Kind 0: none is broken.
-#[derive(Drop)]
+#[derive(Clone, Copy)]
 pub struct Fault {
     pub kind: u32,
     pub byte: u32,
 }
 
 // Least, greatest and step of a number, with the kind of its refusal.
-#[derive(Drop)]
+#[derive(Clone, Copy)]
 pub struct Limits {
     pub least: u64,
     pub greatest: u64,
