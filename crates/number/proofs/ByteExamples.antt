@@ -1,6 +1,6 @@
 -- 02, request 6, on texts at the edge, each byte counted by hand: computed, and no more than that.
 use mathlib.Core.Path.{◌≡◌, refl}
-use mathlib.Core.List.{List, [], ◌∷◌, map, ◌++◌}
+use mathlib.Core.List.{List, [], ◌∷◌}
 use Prim.Native.Nat.{ℕ}
 use Prim.Native.String.{String}
 use Rattle.laws.specs.Texts.{bytes}

@@ -17,7 +17,7 @@ use Rattle.laws.proofs.Answers.{one_answer}
 use Rattle.laws.proofs.Starts.{very-wrong, one-very-byte}
 use Rattle.number.specs.declared.Reading.{Reading}
 use Rattle.number.specs.Integer.{refused, wrong_form, of_length, read, integer, integer_form, integer_value, unsigned_part}
-use Rattle.number.specs.Grammar.{IntegerText, IntegerMeans, SomeInteger, RealText, RealMeans, SomeReal, Large, Billionths}
+use Rattle.number.specs.Grammar.{IntegerMeans, SomeInteger, RealText, RealMeans, SomeReal, Large, Billionths}
 use Rattle.number.specs.Bytes.{is_blank, is_minus, starts, past_all}
 use Rattle.number.specs.Real.{real_value, real, real_form}
 use Rattle.number.specs.IntegerStarts.{integer_byte}
@@ -105,6 +105,7 @@ pub integer-wrong-form : (s : List ℕ) (k : ℕ) → (integer s ≡ wrong_form 
 integer-wrong-form s k = Iff.trans (integer-answers s (wrong_form k)) (go, λ h. wrong-form h.0 k h.1)
   where
     go : {k : ℕ} → IntegerAnswer s (wrong_form k) → Fits 6 s × VeryByte SomeInteger s k
+    go (formed _ t x4) = elim x4 [ ]
     go (wrong-form f k v) = (f, v)
 
 -- .. with fields of whatever length, in the request's own two cases
@@ -119,6 +120,7 @@ pub integer-wrong-length : (s : List ℕ) → (integer s ≡ refused 1) ↔ (Fit
 integer-wrong-length s = Iff.trans (integer-answers s (refused 1)) (go, λ h. wrong-length h)
   where
     go : IntegerAnswer s (refused 1) → Fits 6 s → ⊥
+    go (formed _ t x4) = elim x4 [ ]
     go (wrong-length g) = g
 
 pub one-integer-meaning : {s : List ℕ} {z z' : ℤ} → IntegerMeans s z → IntegerMeans s z' → z ≡ z'
@@ -189,6 +191,7 @@ pub real-wrong-form : (s : List ℕ) (k : ℕ) → (real s ≡ wrong_form k) ↔
 real-wrong-form s k = Iff.trans (real-answers s (wrong_form k)) (go, λ h. wrong-form h.0 k h.1)
   where
     go : {k : ℕ} → RealAnswer s (wrong_form k) → Fits 24 s × VeryByte SomeReal s k
+    go (formed _ t x4) = elim x4 [ ]
     go (wrong-form f k v) = (f, v)
 
 pub real-byte-anyhow : (s : List ℕ) (k : ℕ) → real s ≡ wrong_form k → Anyhow SomeReal s k
@@ -201,6 +204,7 @@ pub real-wrong-length : (s : List ℕ) → (real s ≡ refused 1) ↔ (Fits 24 s
 real-wrong-length s = Iff.trans (real-answers s (refused 1)) (go, λ h. wrong-length h)
   where
     go : RealAnswer s (refused 1) → Fits 24 s → ⊥
+    go (formed _ t x4) = elim x4 [ ]
     go (wrong-length g) = g
 
 abbrev pub TooLarge : {s : List ℕ} → SomeReal s → Type 0

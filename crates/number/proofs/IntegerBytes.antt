@@ -3,10 +3,10 @@ use mathlib.Core.Bool.{Bool, true, false, not}
 use mathlib.Core.List.{List, [], ◌∷◌}
 use mathlib.Core.Logic.{◌↔◌}
 use mathlib.Core.Path.{◌≡◌, refl, sym, ◌∙◌, ap}
-use Prim.Native.Nat.{ℕ, zero, suc, ◌≤◌, ◌<◌, ◌+◌}
+use Prim.Native.Nat.{ℕ, zero, suc, ◌≤◌}
 use lib.ListN.{length, drop, replicate, length-replicate}
 use Rattle.laws.specs.Sign.{◌and◌}
-use Rattle.laws.specs.Starts.{run, lost_at, VeryByte, Anyhow}
+use Rattle.laws.specs.Starts.{run, VeryByte, Anyhow}
 use Rattle.laws.proofs.Tests.{clash, by-test}
 use Rattle.laws.proofs.Starts.{Knows, lost-is, lost-anyhow, walked, lost-at}
 use Rattle.number.specs.Bytes.{is_blank, is_sign, is_digit, is_empty, past_all, digits}

@@ -9,7 +9,6 @@ use lib.Seq.{drop-drop}
 use native.Mathlib.Nat.{lt_of_lt_of_le}
 use borrow.Author.Tests.{le-leb, lt-leb}
 use lib.Dec.{leb, lit<}
-use Rattle.laws.specs.Sign.{◌and◌}
 use Rattle.laws.proofs.Tens.{ten-up}
 use Rattle.laws.proofs.Tests.{clash, and-fails-first, and-fails-second}
 use Rattle.number.specs.Bytes.{is_letter, starts, is_sign, is_minus, is_digit, past_one, past_all, digits, number}

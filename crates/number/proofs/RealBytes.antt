@@ -1,12 +1,12 @@
 -- The byte of a real field of wrong form: where a walk finds it, and that it is the very byte of any form that says what `real_form` says.
-use mathlib.Core.Bool.{Bool, true, false, cond, not}
-use mathlib.Core.List.{List, [], ◌∷◌, ◌++◌}
+use mathlib.Core.Bool.{Bool, true, false, cond}
+use mathlib.Core.List.{List, [], ◌∷◌}
 use mathlib.Core.Logic.{◌↔◌}
 use mathlib.Core.Path.{◌≡◌, refl, sym, ◌∙◌, ap}
-use Prim.Native.Nat.{ℕ, zero, suc, ◌≤◌, ◌<◌, ◌+◌}
+use Prim.Native.Nat.{ℕ, zero, suc, ◌≤◌}
 use native.Mathlib.Omega.{arith}
 use borrow.Author.Tests.{leb-true, leb-false, le-leb, lt-leb, ne_eqb}
-use lib.Dec.{leb, eqb}
+use lib.Dec.{leb}
 use lib.ListN.{length, drop, replicate, length-replicate}
 use Rattle.laws.specs.Sign.{◌and◌}
 use Rattle.laws.specs.Starts.{run, VeryByte, Anyhow}
@@ -15,7 +15,7 @@ use Rattle.laws.proofs.Starts.{Knows, lost-is, lost-anyhow, walked, lost-at}
 use Rattle.number.specs.Bytes.{is_blank, is_sign, is_digit, is_point, is_letter, is_empty, starts, past_one, past_all, digits}
 use Rattle.number.specs.Integer.{unsigned_part}
 use Rattle.number.specs.RealStarts.{Place, leaves, step, is_lost, real_byte}
-use Rattle.number.specs.Real.{real_form, mantissa_digits, past_mantissa, power_form, past_power, power}
+use Rattle.number.specs.Real.{real_form, mantissa_digits, past_mantissa, power_form, past_power}
 use Rattle.number.specs.RealStarts.Place.{in_blanks, past_sign, in_whole, bare_point, in_fraction, past_letter, past_power_sign, one_digit, two_digits, in_rest, lost}
 use Rattle.number.specs.Steps.{stopped_at, power_stop}
 use Rattle.number.proofs.Places.{digit-range}
