@@ -11,14 +11,14 @@ use field::Fault;
 use lattice::{Lattice, Place};
 
 // In billionths of the ground unit.
-#[derive(Drop)]
+#[derive(Clone, Copy)]
 pub struct Corner {
     pub x: i64,
     pub y: i64,
 }
 
 // What a good record A says, in document 01's order; reals and spacings in billionths.
-#[derive(Drop)]
+#[derive(Clone, Copy)]
 pub struct Header {
     pub level: u64,
     pub system: u64,
