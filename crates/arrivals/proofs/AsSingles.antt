@@ -147,5 +147,9 @@ arrivals_for s lent (run number blocks ∷ gs) =
 
 pub arrivals-kept : (s : Session) (lent : Lent) (gs : List Given) → Arrivals s lent (arrivals_for s lent gs)
 arrivals-kept s lent [] = none_yet
-arrivals-kept s lent (block d ∷ gs) = one_more (record { answers = refl; fills = refl }) (arrivals-kept _ _ gs)
-arrivals-kept s lent (run number blocks ∷ gs) = run_more (record { answers = refl; fills = refl }) (arrivals-kept _ _ gs)
+arrivals-kept s lent (block d ∷ gs) =
+    one_more (record { answers = refl; fills = refl })
+    (arrivals-kept (deliver_of s d.number d.bytes lent).session (lent_after s d.number d.bytes lent) gs)
+arrivals-kept s lent (run number blocks ∷ gs) =
+    run_more (record { answers = refl; fills = refl })
+    (arrivals-kept (run_of s number blocks lent).session (run_of s number blocks lent).lent gs)

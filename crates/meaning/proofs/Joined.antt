@@ -82,6 +82,7 @@ module _ (text more block : List ℕ) (k : ℕ) (x : Extends text more block k) 
       omega (arith, full, r)
     where
       room : (q : ℕ) → 1 ≤ q → room_in q ≡ 146 + 170 * (q - 1)
+      room zero h = elim h [ ]
       room (suc q) h = let e : suc q - 1 ≡ q = omega arith in rw e
 
   pub heights-whole : 1 ≤ k → (j : ℕ) → start_of text (suc j) ≤ k → heights_in more j ≡ heights_in text j

@@ -2,7 +2,7 @@
 -- what the text with the block, if taken, means. The verdicts of LaterVerdict, test by test, carry it.
 use mathlib.Core.Bool.{true, Bool, false, cond, not}
 use mathlib.Core.List.{List, ◌++◌, []}
-use mathlib.Core.Path.{◌≡◌, refl, sym, ◌∙◌, ap, ap₂}
+use mathlib.Core.Path.{◌≡◌, refl, sym, ◌∙◌, ap, ap₂, subst⁻¹, subst}
 use Prim.Native.Nat.{ℕ, ◌*◌, ◌≤◌, ◌+◌, ◌<◌}
 use lib.IntN.{ℤ}
 use lib.ListN.{length, drop, replicate, length-append}
@@ -83,7 +83,7 @@ module _ (family : ℕ) (text : List ℕ) (lent : List ℤ) (block : List ℕ) w
           session-is = ap (λ d. d.session) e ∙ ap (session_of family) (sym t);
           grid-is = g ∙ ap (λ (l : List ℕ). grid_of l lent) (sym t);
           whole_is = rw t good.whole;
-          kept-is = λ some. rw t (good.kept (rw t at some));
+          kept-is = λ some. subst⁻¹ (λ (x : List ℕ). (first_breach family x).kind ≡ 0) t (good.kept (rw t at some));
           room-is = λ some. rw t (good.room (rw t at some));
         }
 
@@ -365,8 +365,8 @@ module _ (family : ℕ) (text : List ℕ) (lent : List ℤ) (k : Desk) (at : Sta
         good =
             record {
               whole = rw (← e) fit.whole_is;
-              kept = rw (← e) fit.kept-is;
-              room = rw (← e) fit.room-is;
+              kept = subst (λ (a : Answer). 1 ≤ blocks_in (text ++ bytes_if a d.bytes) → (first_breach family (text ++ bytes_if a d.bytes)).kind ≡ 0) e fit.kept-is;
+              room = subst (λ (a : Answer). 1 ≤ blocks_in (text ++ bytes_if a d.bytes) → cells_in (text ++ bytes_if a d.bytes) ≤ length lent) e fit.room-is;
               sound-is =
                   ap sound (sym session-told)
                   ∙ sound-out k.session d.number d.bytes k.lent (ap sound at.session-is ∙ at.good.sound-is);

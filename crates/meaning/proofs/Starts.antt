@@ -48,6 +48,7 @@ closed-start text (suc n) h =
     (λ e. rw e (closed-start text n h))
 
 pub closed-next : (text : List ℕ) (n : ℕ) → closed_of text n < n → blocks_in text < start_of text (suc (closed_of text n))
+closed-next text zero h = elim h [ ]
 closed-next text (suc n) h =
     by-test (leb (start_of text (suc n)) (blocks_in text))
     (λ e. let z : suc n < suc n = rw e at h in absurd (omega (arith, z)))
