@@ -22,6 +22,7 @@ fn sheet_line(text: &mut [u8], rows: u64, columns: u64, x: u64, y: u64, z: u64) 
     numerals::put_byte(text, e, FEED)
 }
 
+#[tactic(auto, unfolding(crate::specs::Lines::head_line))]
 fn head_line(text: &mut [u8], h: Header) -> usize
     requires { 216 ≤ length text.old }
     ensures { Within 216 text.old 0 (head_line h) text.new result }
