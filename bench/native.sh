@@ -46,7 +46,7 @@ object_here() { # NAME OPTION
 # The C calls for this machine, to be linked, at $room/desk; the program at $room/survey.
 native_desk() {
     if [ "$(uname -m)" = x86_64 ]; then
-        quietly rt staticlib desk
+        quietly desk_library
         cp target/staticlib/libdesk.a "$room/desk"
     else
         keep_module desk staticlib desk
@@ -57,7 +57,7 @@ native_desk() {
 
 native_survey() {
     if [ "$(uname -m)" = x86_64 ]; then
-        cp target/bin/survey "$room/survey"
+        cp crates/survey/out/survey "$room/survey"
     else
         keep_module survey check survey
         object_here survey -fPIE

@@ -10,7 +10,7 @@ need gcc gcc
 need valgrind valgrind
 . bench/native.sh
 posts=$((1201 * 1201))
-quietly rt check survey desk
+quietly built_program survey
 native_survey
 native_desk
 gcc -std=gnu99 -O2 -Wall -Wextra -Werror -Iinclude bench/send.c "$room/desk" -o "$room/send"

@@ -10,7 +10,7 @@ cd "$(dirname "$0")/.."
 need gcc gcc
 need valgrind valgrind
 . bench/native.sh
-quietly rt check survey desk
+quietly built_program survey
 native_survey
 native_desk
 warned=(-O2 -Wall -Wextra -Werror)
