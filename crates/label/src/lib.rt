@@ -128,6 +128,7 @@ fn family_place(family: u64, code: &[u8]) -> u32
 }
 
 // 02, request 2: the number of the origin (141-144) among the codes of the sheet's family, 0 for any other.
+#[tactic(auto, unfolding(crate::specs::Label::family_origin))]
 pub fn family_origin(family: u64, block: &[u8]) -> u32
     ensures { result ≡ family_origin family block.now }
 {
@@ -138,6 +139,7 @@ pub fn family_origin(family: u64, block: &[u8]) -> u32
 }
 
 // "Origin (141-144) is reported as 1 to 6 .. and 0 for any other.": that of a USGS sheet.
+#[tactic(auto, unfolding(crate::specs::Label::family_origin, crate::specs::Label::origin_of))]
 pub fn origin(block: &[u8]) -> u32
     ensures { result ≡ origin_of block.now }
 {
@@ -145,6 +147,7 @@ pub fn origin(block: &[u8]) -> u32
 }
 
 // How many bytes the name has. The bound is said beside the number so that `name` can cut there.
+#[tactic(auto, unfolding(crate::specs::Label::name_length))]
 fn name_end(block: &[u8]) -> usize
     ensures { (result ≤ length block.now) × (result ≡ name_length block.now) }
 {
