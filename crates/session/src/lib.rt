@@ -9,7 +9,7 @@ ghost use Rattle.session.specs.Session.{opened, fresh, begun, sound, complete, o
 use frame::{Corner, Header};
 
 // The open profile: none where `posts` is 0. Stated extremes are in billionths, datum and running extremes in hundredths.
-#[derive(Drop)]
+#[derive(Clone, Copy)]
 pub struct Profile {
     pub posts: u64,
     pub row: u64,
@@ -24,7 +24,7 @@ pub struct Profile {
 
 // Blocks taken, profiles closed, posts and filled posts with their extremes in hundredths, the first profile's column,
 // whether record C was taken, the sum of the filled posts' heights in hundredths, and the sheet's family.
-#[derive(Drop)]
+#[derive(Clone, Copy)]
 pub struct Session {
     pub header: Header,
     pub taken: u64,
