@@ -11,6 +11,7 @@ use Rattle.session.specs.Session.{no_profile}
 use Rattle.session.specs.declared.Session.{Session}
 use Rattle.ground.specs.Posts.{void}
 use Rattle.meaning.specs.Deliveries.{Delivery}
+use Rattle.heading.specs.Heading.Name.{ground}
 
 -- ---- fields of a width
 

@@ -4,6 +4,7 @@ use Rattle.frame.specs.Frame.{columns_of}
 use Rattle.frame.specs.declared.Header.{Header}
 use Rattle.ground.specs.Extremes.{least_stated, greatest_stated}
 use Rattle.written.specs.Blocks.{sheet_cells}
+use Rattle.heading.specs.Heading.Name.{ground}
 
 abbrev pub header_sent : Header → List ℤ → Header
 header_sent h grid =
