@@ -1,11 +1,14 @@
 -- A lattice and a place on it, by what their tests decide.
 use mathlib.Core.Bool.{true, false, Bool, cond}
-use mathlib.Core.Path.{◌≡◌, refl, ap}
+use mathlib.Core.Path.{◌≡◌, refl, ap, sym, ◌∙◌}
 use Prim.Native.Nat.{◌<◌, ◌^◌, ℕ, ◌≤◌, ◌%◌}
 use borrow.Author.Tests.{ltb-true, lt-ltb, le-ltb, leb-true, le-leb, eqb-true, eq-eqb}
 use lib.IntN.{ℤ, nat_abs, pos, negsuc, ◌-ℤ◌}
 use native.Mathlib.Omega.{arith}
 use lib.Signed.{lt_z}
+use mir.Facts.{to_z-of_z}
+use mir.Syntax.{w64}
+use mir.Val.{SFits, to_z, of_z}
 use lib.Dec.{ltb, leb, eqb}
 use Rattle.laws.specs.Sign.{◌and◌}
 use Rattle.laws.proofs.Tests.{clash, and_first, and_second}
@@ -18,6 +21,10 @@ real-small z = ltb-true (nat_abs z) (10 ^ 18)
 
 pub small-real : (z : ℤ) → nat_abs z < 10 ^ 18 → is_real z ≡ true
 small-real z = lt-ltb (nat_abs z) (10 ^ 18)
+
+-- what the code learns of a number that it read is so of the number
+pub real_read : {z : ℤ} {r : Bool} → SFits w64 z → r ≡ is_real (to_z w64 (of_z w64 z)) → r ≡ true → is_real z ≡ true
+real_read fits e t = sym (ap is_real (to_z-of_z fits)) ∙ sym e ∙ t
 
 -- the place that a difference gives, by its sign
 pub within-minus : (z : ℤ) (count : ℕ) → lt_z z (pos 0) ≡ true → place_within z count ≡ Off

@@ -70,6 +70,7 @@ fn no_lattice() -> Lattice
 }
 
 // The multiples of the spacing from the least to the greatest corner value; none for what is no real or no spacing.
+#[tactic(auto, unfolding(crate::specs::Lattice::lattice_of))]
 pub fn span(least: i64, greatest: i64, spacing: u64) -> Lattice
     ensures { result ≡ lattice_of least greatest spacing }
 {
@@ -107,6 +108,7 @@ fn from_first(multiple: i64, first: i64, count: u64) -> Place
 }
 
 // Where a place stands on the lattice, counted from its first multiple.
+#[tactic(auto, unfolding(crate::specs::Lattice::place_of))]
 pub fn locate(l: Lattice, spacing: u64, z: i64) -> Place
     ensures { result ≡ place_of l spacing z }
 {
