@@ -39,7 +39,7 @@ module _ (n : ℕ) (x y : Session) where
 -- two sums gone on from: what the bits that carry them come to
 module _ (a b : ℤ) (h : Near a) (k : Near b) where
   read_back : to_z w64 (of_z w64 a) +ℤ to_z w64 (of_z w64 b) ≡ a +ℤ b
-  read_back = ap₂ ◌+ℤ◌ (to_z-of_z (size_fits a (omega arith))) (to_z-of_z (size_fits b (omega arith)))
+  read_back = ap₂ ◌+ℤ◌ (to_z-of_z {w = w64} (size_fits a (omega arith))) (to_z-of_z {w = w64} (size_fits b (omega arith)))
 
   pub sum_fits : SFits w64 (to_z w64 (of_z w64 a) +ℤ to_z w64 (of_z w64 b))
   sum_fits = rw read_back (size_fits (a +ℤ b) (omega (arith, size-sum a b)))
