@@ -1,6 +1,10 @@
 -- A good block comes to the definition's verdict, and its cells are cells of the sheet.
 use mathlib.Core.List.{List}
-use mathlib.Core.Path.{◌≡◌, sym, ◌∙◌}
+use mathlib.Core.Path.{◌≡◌, sym, ◌∙◌, ap}
+use mir.Syntax.{w64}
+use mir.Val.{to_z, of_z}
+use mir.Facts.{to_z-of_z}
+use Rattle.laws.proofs.Integers.{size_fits}
 use Prim.Native.Nat.{ℕ, ◌+◌, ◌-◌, ◌*◌, ◌≤◌, ◌<◌}
 use lib.IntN.{ℤ, ◌+ℤ◌}
 use lib.ListN.{length, take}
@@ -72,6 +76,14 @@ filled_on s column p n u sum k =
       so_far = omega (arith, k.ready.sum-most, k.ready.filled-most, k.ready.posts-most);
       more-sum = omega arith;
     }))
+
+-- the same of what a call answered, its sum read back from the bits that carry it
+pub filled-told : (s : Session) (column : ℕ) (p : Profile) (n : ℕ) (u : Tally) (sum : ℤ) (r : Session) → Filling s p n u sum
+    → r ≡ cond (countable s p n u (to_z w64 (of_z w64 sum))) (filled_with s column p n u (to_z w64 (of_z w64 sum))) s
+    → r ≡ filled_with s column p n u sum
+filled-told s column p n u sum r k e =
+    e ∙ ap (λ (z : ℤ). cond (countable s p n u z) (filled_with s column p n u z) s) (to_z-of_z {w = w64} (size_fits sum (omega (arith, k.sum-most))))
+    ∙ filled_on s column p n u sum k
 
 module _ (s : Session) (number column : ℕ) (p : Profile) where
   -- the verdict, for any session that a block may leave

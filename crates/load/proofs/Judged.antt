@@ -1,7 +1,7 @@
 -- A block of a profile judged: a fault is its refusal, and without one it comes to the definition's verdict.
 use mathlib.Core.List.{List, []}
 use mathlib.Core.Path.{◌≡◌, sym, ◌∙◌, ap, refl, subst}
-use Prim.Native.Nat.{ℕ, ◌≤◌, ◌<◌, ◌+◌, ◌^◌, min}
+use Prim.Native.Nat.{ℕ, ◌≤◌, ◌<◌, ◌+◌, ◌*◌, ◌^◌, min}
 use native.Mathlib.Omega.{arith}
 use lib.IntN.{ℤ, nat_abs}
 use lib.ListN.{length, take, length-take}
@@ -17,7 +17,7 @@ use Rattle.profile.specs.declared.record_b.Head.{Head}
 use Rattle.profile.specs.RecordC.{record_c}
 use Rattle.sheet.specs.declared.Checked.{Checked}
 use Rattle.sheet.specs.declared.Checked.TheVariants.{Sheet, Refused as NoSheet}
-use Rattle.session.specs.Session.{busy}
+use Rattle.session.specs.Session.{busy, open_blocks}
 use Rattle.session.specs.declared.Session.{Session}
 use Rattle.session.specs.declared.Profile.{Profile}
 use Rattle.ground.specs.Posts.{no_tally, tally_all, heights, posts_of, posts_rest_fault}
@@ -25,12 +25,17 @@ use Rattle.ground.specs.Extremes.{filled_only, sum_of}
 use Rattle.ground.proofs.PostsRead.{scan-few, posts-length}
 use Rattle.ground.proofs.Heights.{heights-length}
 use Rattle.posts.specs.Steps.{BlockScanned}
-use Rattle.posts.specs.Scan.{summed}
+use Rattle.posts.specs.Scan.{summed, scan_of, scratch_after}
+use Rattle.posts.proofs.Asking.{asks, scan-known}
+use mir.Syntax.{w64}
+use mir.Val.{to_z, of_z}
+use mir.Facts.{to_z-of_z}
+use Rattle.laws.proofs.Integers.{size_fits}
 use Rattle.posts.specs.declared.Scan.{Scan}
 use Rattle.delivery.specs.Deliver.{Verdict, Room, too_short, again, wrong, begins, beginning, unless, filling, heights_here, fills, finished_session, further, opening, later, posts_here, opening_with, placed, first_column, opened}
 use Rattle.gate.specs.Gate.{judged_of}
 use Rattle.gate.specs.declared.verdict.Judged.{Judged}
-use Rattle.load.specs.Steps.{Judging, Lies, ByTally, Ready, Filling, Placing}
+use Rattle.load.specs.Steps.{Judging, Lies, ByTally, OpenProfile, Ready, Filling, Placing, Opening, Placeable}
 use Rattle.load.proofs.Filled.{filling-lies, cell_room}
 
 -- a block judged for one verdict is judged for the same verdict in another form
@@ -87,6 +92,16 @@ scanned-count s datum byte n block before after r sc e =
     let few : (tally_all no_tally (heights (z_of s.header) datum (posts_of n byte block))).filled ≤ 0 + n = scan-few n byte block (z_of s.header) datum no_tally in
     rw (sc.tally-is e) (omega arith)
 
+-- a scan that is asked rightly, its datum read back from the bits that carry it
+pub scan-told : (block : List ℕ) (byte n z y : ℕ) (datum : ℤ) (before after : List ℤ) (r : Scan) → length block ≡ 1024 → length before ≡ 170
+    → 1 ≤ byte → byte + 6 * n ≤ 1025 → n ≤ 170 → z ≤ 100 → nat_abs datum ≤ 1000000 → y ≡ z
+    → (r ≡ scan_of block byte n y (to_z w64 (of_z w64 datum)) (length before)) × (after ≡ scratch_after block byte n y (to_z w64 (of_z w64 datum)) before)
+    → BlockScanned block byte n z datum before after r
+scan-told block byte n z y datum before after r long room from end few most near is p =
+    scan-known block byte n z datum before after r y (to_z w64 (of_z w64 datum)) is (to_z-of_z {w = w64} (size_fits datum (omega (arith, near))))
+    (asks block byte n z datum (length before) long from end (omega (arith, few, room)) most near)
+    p
+
 -- what is known of a profile whose next n posts were scanned without fault
 pub record Scannable (s : Session) (p : Profile) (n : ℕ) : Type 0 where
   pub ready : Ready s
@@ -94,6 +109,41 @@ pub record Scannable (s : Session) (p : Profile) (n : ℕ) : Type 0 where
   pub read-most : p.read + n ≤ p.posts
   pub posts-most : p.posts ≤ 2048
   pub filled-most : p.filled ≤ p.read
+
+-- what a first block that was scanned without fault gives its place
+pub opening-placeable : (s : Session) (number : ℕ) (block : List ℕ) (head : Head) (before : List ℤ) (n : ℕ) (after : List ℤ) (r : Scan)
+    → Opening s number block head before → n ≡ min head.posts 146 → BlockScanned block 145 n (z_of s.header) head.datum before after r → r.kind ≡ 0
+    → (sum : ℤ) → nat_abs sum ≤ 2 ^ 40 → Placeable s number head n r.tally sum
+opening-placeable s number block head before n after r o e sc good sum h =
+    record {
+      ready = o.ready;
+      idle = o.idle;
+      not_last = o.not_last;
+      taken_is = o.taken_is;
+      posts-most = o.posts-most;
+      within = omega (arith, e);
+      count = scanned-count s head.datum 145 n block before after r sc good;
+      sum-most = h;
+    }
+
+-- of the open profile, and of one that opens
+pub further-scannable : (s : Session) (n : ℕ) → Ready s → OpenProfile s → n ≡ posts_here s.profile 170 → Scannable s s.profile n
+further-scannable s n k f e =
+    record {
+      ready = k;
+      few = omega (arith, e);
+      read-most = omega (arith, e, f.read_below);
+      posts-most = f.posts-most;
+      filled-most = f.filled-most;
+    }
+
+pub opening-scannable : (s : Session) (head : Head) (n : ℕ) → Ready s → head.posts ≤ 2048 → n ≡ min head.posts 146 → Scannable s (opened s head) n
+opening-scannable s head n k h e =
+    record { ready = k; few = omega (arith, e); read-most = omega (arith, e); posts-most = h; filled-most = omega arith }
+
+pub further-placing : (s : Session) (number : ℕ) → number ≡ s.taken → open_blocks s ≤ number → OpenProfile s → Placing s number s.column s.profile
+further-placing s number e b f =
+    record { taken_is = e; column-room = f.column-room; not_last = f.not_last; row_room = f.row_room; blocks = b }
 
 module _ (s : Session) (p : Profile) (byte n : ℕ) (block : List ℕ) (before after : List ℤ) (r : Scan)
     (sc : BlockScanned block byte n (z_of s.header) p.datum before after r) (e : r.kind ≡ 0) (k : Scannable s p n) where
