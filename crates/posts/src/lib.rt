@@ -12,7 +12,7 @@ use ground::Tally;
 use number::Reading;
 
 // The first fault of a block's posts and of what stands behind them (kind 0: none), and the tally of their heights.
-#[derive(Drop)]
+#[derive(Clone, Copy)]
 pub struct Scan {
     pub kind: u32,
     pub byte: u32,
