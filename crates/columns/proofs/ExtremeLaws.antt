@@ -67,7 +67,7 @@ with-small cell t k s = go (same_z cell void) refl t.some refl
 -- hundredths as billionths, of any cell, as the machine has them
 module _ (v : ℤ) (k : nat_abs v ≤ 2147483648) where
   back : to_z w64 (of_z w64 v) ≡ v
-  back = to_z-of_z (size_fits v (omega arith))
+  back = to_z-of_z {w = w64} (size_fits v (omega arith))
 
   pub stated-fits : SFits w64 (to_z w64 (of_z w64 v) *ℤ pos 10000000)
   stated-fits = rw back (size_fits (v *ℤ pos 10000000) (omega (arith, size-multiple v 10000000)))
