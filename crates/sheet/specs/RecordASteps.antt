@@ -12,7 +12,7 @@ use Rattle.field.specs.declared.Limits.{Limits}
 use Rattle.field.specs.declared.Fault.{Fault}
 use Rattle.frame.specs.declared.Corner.{Corner}
 use Rattle.frame.specs.declared.Header.{Header}
-use Rattle.heading.specs.Heading.Name.{spacing}
+use Rattle.heading.specs.Heading.Name.{spacing, ground}
 use Rattle.heading.specs.Steps.{number_of}
 use Rattle.sheet.specs.RecordA.{Row, row, canadian_front, usgs_front, back, Rule, judge_row, first_fault, fields_fault}
 use Rattle.sheet.specs.RecordA.Rule.{words, mixed, filler, form, free, plain, spaced, whole, stepped}

@@ -1,0 +1,10 @@
+-- The table's column, computed: it is that of `rows`.
+use lib.ListN.{get_or-map}
+use Rattle.sheet.specs.RecordA.{canadian_front, usgs_front, back, row}
+use Rattle.sheet.specs.RecordA.Rule.{words}
+use Rattle.sheet.specs.RecordASteps.{rows}
+use Rattle.sheet.proofs.first_byte.Goals as goal
+
+pub returns : goal.returns
+unfolding canadian_front usgs_front back
+returns c = get_or-map (λ r. r.first) rows c.args.i (row 0 0 words)
