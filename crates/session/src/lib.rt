@@ -98,6 +98,7 @@ pub fn new() -> Session
 }
 
 // Document 01: "A session is sound exactly if ..". Any session is answered.
+#[tactic(auto, unfolding(crate::specs::Session::sound))]
 pub fn is_sound(s: Session) -> bool
     ensures { result ≡ sound s }
 {
