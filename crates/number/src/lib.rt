@@ -14,7 +14,7 @@ use decimal::Scaled;
 
 // Kind 0 is a good reading; any other kind is document 01's number of the refusal, with the value 0. For wrong form the byte of the field, counted
 // from 1, that first makes the form impossible; 0 for every other kind.
-#[derive(Drop)]
+#[derive(Clone, Copy)]
 pub struct Reading {
     pub kind: u32,
     pub value: i64,
