@@ -11,7 +11,6 @@ use borrow.Author.Tests.{leb-true, le-leb, lt-ltb, le-ltb}
 use lib.Dec.{leb, ltb}
 use lib.IntN.{ℤ}
 use lib.ListN.{length, drop, length-take, length-drop}
-use Rattle.laws.specs.Sign.{◌and◌}
 use Rattle.laws.proofs.Tests.{split, and_both}
 use Rattle.frame.specs.Frame.{columns_of, rows_of, cells_of}
 use Rattle.frame.specs.declared.Header.{Header}
