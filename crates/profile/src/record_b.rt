@@ -24,7 +24,7 @@ pub enum Headed {
 }
 
 // The five reals, each as it reads alone.
-#[derive(Drop)]
+#[derive(Clone, Copy)]
 struct Reals {
     x: Reading,
     y: Reading,
@@ -90,10 +90,11 @@ fn counts_fault(family: u64, number: u64, block: &[u8], posts: Reading, rest: Fa
     requires { length block.now ≡ 1024 }
     ensures { result ≡ counts_fault family number block.now posts rest }
 {
-    let last = field::judge_at(field::limits_of(1, 1, 1, 9), block, 19, rest);
+    let one = field::limits_of(1, 1, 1, 9);
+    let last = field::judge_at(one, block, 19, rest);
     let many = field::judge(field::posts_limits(family), posts, 13, last);
     let numbered = field::judge_at(field::limits_of(number, number, 1, 9), block, 7, many);
-    field::judge_at(field::limits_of(1, 1, 1, 9), block, 1, numbered)
+    field::judge_at(one, block, 1, numbered)
 }
 
 fn in_hundredths(z: i64) -> i64
@@ -102,16 +103,21 @@ fn in_hundredths(z: i64) -> i64
     z / 10000000
 }
 
-fn head_from(posts: &Reading, s: &Reals) -> Head
-    ensures { result ≡ head_from posts.now s.now }
+fn head_from(posts: Reading, s: Reals) -> Head
+    ensures { result ≡ head_from posts s }
 {
+    let x = s.x;
+    let y = s.y;
+    let datum = s.datum;
+    let least = s.least;
+    let greatest = s.greatest;
     Head {
         posts: figures::not_negative(posts.value),
-        x: s.x.value,
-        y: s.y.value,
-        datum: in_hundredths(s.datum.value),
-        least: s.least.value,
-        greatest: s.greatest.value,
+        x: x.value,
+        y: y.value,
+        datum: in_hundredths(datum.value),
+        least: least.value,
+        greatest: greatest.value,
     }
 }
 
@@ -124,10 +130,9 @@ pub fn read_head(family: u64, number: u64, block: &[u8]) -> Headed
     }
     let posts = field::integer_at(block, 13);
     let s = read_reals(block);
-    let head = head_from(&posts, &s);
     let f = counts_fault(family, number, block, posts, reals_fault(s));
     if f.kind != 0 {
         return Headed::Refused(f.kind, f.byte);
     }
-    Headed::Profile(head)
+    Headed::Profile(head_from(posts, s))
 }

@@ -27,5 +27,5 @@ returns c =
     c.counts_fault-f.ensures
     ∙ ap₂ (counts_fault a.family a.number a.block.now) c.integer_at-posts.ensures (c.reals_fault.ensures ∙ ap reals_fault c.read_reals-s.ensures)
     in
-    ap Profile (c.head_from-head.ensures ∙ ap₂ head_from c.integer_at-posts.ensures c.read_reals-s.ensures)
+    ap Profile (c.head_from.ensures ∙ ap₂ head_from c.integer_at-posts.ensures c.read_reals-s.ensures)
     ∙ head-good a.family a.number a.block.now c.if-block-ne1024.false c.counts_fault-f.result e c.if-f-ne0.false
