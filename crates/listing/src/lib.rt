@@ -116,6 +116,7 @@ pub fn take_bytes(s: Session, bytes: &[u8], grid: &mut [i32]) -> Turn
 }
 
 // The line or lines that end a listing. Answers the bytes used; none, and nothing changed, where they do not fit.
+#[tactic(auto, unfolding(crate::specs::Turns::last_text))]
 pub fn put_last(t: Turn, out: &mut [u8]) -> usize
     ensures { Given (last_text t) out.old out.new result }
 {
