@@ -55,6 +55,7 @@ fn copy(kept: &[u8], field: &mut [u8])
 }
 
 // A number too long for its field leaves it as it was.
+#[tactic(auto, unfolding(crate::specs::ZeroSteps::text_by))]
 fn write_field(how: u8, value: i64, kept: &[u8], field: &mut [u8])
     requires { length kept.now ≡ length field.old }
     ensures { field.new ≡ text_by how value kept.now field.old }
