@@ -15,6 +15,7 @@ use Rattle.delivery.specs.declared.Delivered.{Delivered}
 use Rattle.delivery.specs.Deliver.{lend, deliver_of, lent_after}
 use Rattle.lines.specs.Lines.{report_text}
 use Rattle.ledger.specs.Numbers.{kept, session_numbers}
+use Rattle.heading.specs.Heading.Name.{ground}
 
 -- ---- the session that numbers say
 
