@@ -57,4 +57,4 @@ module _ {first : ℤ} {index step : ℕ} (a : PlaceAsked first index step) wher
   place-fits = size_fits ((first +ℤ pos index) *ℤ pos step) (omega (arith, a.place-small))
 
   pub first_back : to_z w64 (of_z w64 first) ≡ first
-  first_back = to_z-of_z (size_fits first (omega (arith, a.first_small)))
+  first_back = to_z-of_z {w = w64} (size_fits first (omega (arith, a.first_small)))
