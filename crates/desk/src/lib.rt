@@ -239,12 +239,7 @@ pub fn dem_write_block(
 }
 
 // The whole sheet into `out`, which has exactly block count × 1,024 bytes; 1 with 0 else, after all other refusals.
-pub fn dem_write_sheet(
-    template: &[u8],
-    grid: &[i32],
-    out: &mut [u8],
-    answer: &mut [u64],
-) -> u32
+pub fn dem_write_sheet(template: &[u8], grid: &[i32], out: &mut [u8], answer: &mut [u64]) -> u32
     ensures { (result ≡ sent_kind (sent_by (sheet_sent_objection template.now grid.now (length out.old)))) × ((out.new ≡ sheet_after template.now grid.now out.old) × (answer.new ≡ handed (sent_beside (sent_by (sheet_sent_objection template.now grid.now (length out.old)))) answer.old)) }
 {
     let sent = send::write_sheet(template, grid, out);
