@@ -11,7 +11,7 @@ pub struct Lattice {
     pub count: u64,
 }
 
-#[derive(Drop)]
+#[derive(Clone, Copy)]
 pub enum Place {
     On(u64),
     Off,
