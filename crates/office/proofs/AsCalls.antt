@@ -115,7 +115,7 @@ desk_calls_for numbers grid lent (d ∷ ds) =
 pub desk-calls-kept : (numbers grid : List ℤ) (lent : List ℕ) (ds : List Delivery) → DeskCalls numbers grid (desk_calls_for numbers grid lent ds)
 desk-calls-kept numbers grid lent [] = no_desk_call
 desk-calls-kept numbers grid lent (d ∷ ds) =
-    desk_called (record { tells = refl; keeps = refl; fills = refl; hands = refl }) 
+    desk_called (record { tells = refl; keeps = refl; fills = refl; hands = refl })
     (desk-calls-kept (numbers_left numbers d.number d.bytes grid) (grid_left numbers d.number d.bytes grid) lent ds)
 
 -- ---- a call that is answered 0 was taken
@@ -174,5 +174,5 @@ module _ (lent : List ℤ) where
       = (λ j. desk (call-says p j) (lend c.grid)) ∙ call-desk (as-promised p) in
       let next = subst (λ (x : Desk). Stands family (text ++ bytes_if (answered k c.sent) c.sent.bytes) lent x) (sym d)
       (stands-next family text lent k st c.sent) in
-      ap₂ (λ (a b : List ℕ). a ++ b) (call-text st p) 
+      ap₂ (λ (a b : List ℕ). a ++ b) (call-text st p)
       (as-text {text = text ++ bytes_if (answered k c.sent) c.sent.bytes} {numbers = c.session} {grid = c.grid} next rest)
