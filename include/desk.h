@@ -1,4 +1,4 @@
-/* The calls of the terrain sheet library. Types and names are those of crates/desk/src, where each call's promise stands; .ci/header
+/* The calls of the terrain sheet library. Types and names are those of crates/desk_c/src, where each call's promise stands; .ci/header
  * holds this file against it.
  *
  * What a caller lends is a pointer and how many bytes, numbers or cells stand there. A call keeps nothing and allocates nothing, and any

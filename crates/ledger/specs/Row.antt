@@ -1,5 +1,5 @@
 -- How the code keeps a session: counts that fit 64 bits with a sign as they are, greater ones as the greatest. That this is the session's own row,
--- `numbers_of`, where it is sound: row-is (proof Keeping).
+-- `numbers_of`, where it is sound: row_is (proof Keeping).
 use Rattle.std.specs.Prelude.{ℕ, min, cond, List, [], ◌∷◌, ◌++◌, leb, ℤ, pos, length, drop}
 use Rattle.frame.specs.declared.Header.{Header}
 use Rattle.session.specs.declared.Profile.{Profile}
