@@ -1,14 +1,17 @@
 -- A column's profile is a stretch of it: how the cells up to the last filled one are found from the end, and the first from the front.
 use Prim.Native.Nat.{ℕ, ◌+◌, ◌<◌, suc, ◌≤◌, zero, ◌-◌}
-use mathlib.Core.List.{List, ◌∷◌, [], ◌++◌}
+use mathlib.Core.List.{List, ◌∷◌, []}
 use mathlib.Core.Path.{◌≡◌, refl, sym, ◌∙◌, ap}
 use lib.IntN.{ℤ, pos}
-use lib.ListN.{drop, length, get_or, drop_of_length-le, length-append, take, length-drop}
-use native.Mathlib.Numerals.{add-one}
-use lib.Seq.{drop-cons, take-suc, take-length, take-nil}
+use lib.ListN.{drop, length, get_or, take, length-drop}
+use lib.Seq.{take-nil}
 use mathlib.Core.Bool.{true, false}
 use native.Mathlib.Omega.{arith}
 use native.Mathlib.Nat.{sub-zero}
+use Rattle.std.proofs.lemmas.Iterator.{index_from_first}
+use Rattle.std.specs.List.{AllWithin, HoldsAt}
+use Rattle.std.proofs.Common.{Option, Bool}
+use Rattle.std.specs.Option.{MatchOption, unwrap_or}
 use Rattle.laws.specs.Sign.{same_z, ◌and◌}
 use Rattle.laws.proofs.Tests.{by-test, clash}
 use Rattle.laws.proofs.SameNumbers.{same_z-is}
@@ -18,30 +21,19 @@ use Rattle.written.proofs.ColumnsSent.{voids-room}
 
 -- ---- from the front
 
-abbrev pub Front : List ℤ → ℕ → Type 0
-Front column i = i + voids_before (drop i column) ≡ voids_before column
+-- the first place that has Yes, as an iterator finds it
+abbrev pub FirstWhere : (ℤ → Type 0) → (ℤ → Type 0) → List ℤ → Option ℕ → Type 0
+FirstWhere Yes No cells found =
+    MatchOption found (AllWithin No cells 0 (length cells)) (λ i. (i < length cells) × HoldsAt Yes cells i × AllWithin No cells 0 i)
 
-pub drop-cell : (cells : List ℤ) (i : ℕ) → i < length cells → drop i cells ≡ get_or cells i (pos 0) ∷ drop (i + 1) cells
-drop-cell cells i h = rw (add-one) (drop-cons cells i (pos 0) h)
-
-module _ (column : List ℤ) (i : ℕ) where
-  pub front-turn : i < length column → same_z (get_or column i (pos 0)) void ≡ true → Front column i → Front column (i + 1)
-  unfolding voids_before
-  front-turn h t p =
-      let e : voids_before (drop i column) ≡ suc (voids_before (drop (i + 1) column)) = rw (drop-cell column i h, t) in
-      omega (arith, e, p)
-
-  pub front-stop : i < length column → same_z (get_or column i (pos 0)) void ≡ false → Front column i → i ≡ voids_before column
-  unfolding voids_before
-  front-stop h t p =
-      let e : voids_before (drop i column) ≡ 0 = rw (drop-cell column i h, t) in
-      omega (arith, e, p)
-
-  pub front-end : length column ≤ i → Front column i → i ≡ voids_before column
-  unfolding voids_before
-  front-end k p =
-      let e : voids_before (drop i column) ≡ 0 = rw (drop_of_length-le column k) in
-      omega (arith, e, p)
+pub voids-first : (column : List ℤ) (found : Option ℕ)
+    → FirstWhere (λ cell. same_z cell void ≡ false) (λ cell. same_z cell void ≡ true) column found
+    → unwrap_or found (length column) ≡ voids_before column
+unfolding voids_before
+voids-first column found first =
+    sym
+    (index_from_first voids_before (λ cell. same_z cell void ≡ false) (λ cell. same_z cell void ≡ true) refl (λ x xs e. rw e)
+    (λ x xs e. rw e (omega arith)) column found first)
 
 -- ---- from the end
 
@@ -53,38 +45,28 @@ some_of : (l : List ℤ) → (length l ≡ 0 → ⊥) → is_none l ≡ false
 some_of [] f = absurd (f refl)
 some_of (x ∷ l) f = refl
 
-snoc-void : (xs : List ℤ) (c : ℤ) → same_z c void ≡ true → up_to_last (xs ++ (c ∷ [])) ≡ up_to_last xs
+abbrev pub void_at : List ℤ → ℕ → Bool
+void_at column k = same_z (get_or column k (pos 0)) void
+
+pub all-void : (column : List ℤ) → ((k : ℕ) → k < length column → void_at column k ≡ true) → up_to_last column ≡ []
 unfolding up_to_last
-snoc-void [] c t = rw t
-snoc-void (x ∷ xs) c t = rw (snoc-void xs c t)
+all-void [] each = refl
+all-void (c ∷ cs) each =
+    let v : same_z c void ≡ true = each 0 (omega arith) in
+    let e : up_to_last cs ≡ [] = all-void cs (λ k h. each (suc k) (omega (arith, h))) in
+    rw (v, e)
 
-snoc-filled : (xs : List ℤ) (c : ℤ) → same_z c void ≡ false → up_to_last (xs ++ (c ∷ [])) ≡ xs ++ (c ∷ [])
+pub last-filled : (column : List ℤ) (i : ℕ) → i < length column → void_at column i ≡ false
+    → ((k : ℕ) → i < k → k < length column → void_at column k ≡ true) → length (up_to_last column) ≡ i + 1
 unfolding up_to_last
-snoc-filled [] c t = rw t
-snoc-filled (x ∷ xs) c t =
-    let e : is_none (xs ++ (c ∷ [])) ≡ false = some_of (xs ++ (c ∷ [])) (λ z. omega (arith, z, length-append xs (c ∷ []))) in
-    rw (snoc-filled xs c t, e) (by-test (same_z x void) (λ q. rw q) (λ q. rw q))
-
-abbrev pub Back : List ℤ → ℕ → Type 0
-Back column end = up_to_last (take end column) ≡ up_to_last column
-
-module _ (column : List ℤ) (last : ℕ) (h : last < length column) where
-  shorter : take (last + 1) column ≡ take last column ++ (get_or column last (pos 0) ∷ [])
-  shorter = rw (add-one) (take-suc column last (pos 0) h)
-
-  pub back-turn : same_z (get_or column last (pos 0)) void ≡ true → Back column (last + 1) → Back column last
-  back-turn t p = sym (ap up_to_last shorter ∙ snoc-void (take last column) (get_or column last (pos 0)) t) ∙ p
-
-  pub back-stop : same_z (get_or column last (pos 0)) void ≡ false → Back column (last + 1) → up_to_last column ≡ take (last + 1) column
-  back-stop t p =
-      sym p ∙ ap up_to_last shorter ∙ snoc-filled (take last column) (get_or column last (pos 0)) t ∙ sym shorter
-
-pub back_start : (column : List ℤ) → Back column (length column)
-back_start column = ap up_to_last (take-length column)
-
-pub back_none : up_to_last [] ≡ []
-unfolding up_to_last
-back_none = refl
+last-filled [] i h f behind = absurd (omega arith)
+last-filled (c ∷ cs) zero h f behind =
+    let e : up_to_last cs ≡ [] = all-void cs (λ k b. behind (suc k) (omega arith) (omega (arith, b))) in
+    rw (f, e)
+last-filled (c ∷ cs) (suc i) h f behind =
+    let e : length (up_to_last cs) ≡ i + 1 = last-filled cs i (omega (arith, h)) f (λ k a b. behind (suc k) (omega (arith, a)) (omega (arith, b))) in
+    let some : is_none (up_to_last cs) ≡ false = some_of (up_to_last cs) (λ z. omega (arith, z, e)) in
+    rw some (by-test (same_z c void) (λ q. rw q (omega (arith, e))) (λ q. rw q (omega (arith, e))))
 
 -- ---- a profile's place
 

@@ -7,9 +7,10 @@ use Rattle.columns.proofs.extremes_of.Reads as extremes-of·told
 use Rattle.columns.proofs.judging.judge_sheet.Reads as judge-sheet·told
 use Rattle.columns.proofs.post_of.Reads as post-of·told
 use Rattle.columns.proofs.scan_column.Reads as scan-column·told
+use Rattle.columns.proofs.Verdicts.{judged-one}
 
 pub judge-sheet : OneResult judge-sheet·told.Learnt
-judge-sheet κs a z z' e e' p q = one_answer p q
+judge-sheet κs a z z' e e' p q = judged-one z z' (one_answer p q)
 
 pub can-send : OneResult can-send·told.Learnt
 can-send κs a z z' e e' p q = one_answer p q

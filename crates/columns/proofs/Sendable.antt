@@ -1,41 +1,35 @@
 -- Which cells can be sent, by their size and sign, and what is sent of them.
-use Prim.Native.Nat.{◌≤◌, ℕ, ◌/◌, ◌^◌, ◌<◌, ◌%◌, ◌+◌, suc}
+use Prim.Native.Nat.{◌≤◌, ℕ, ◌/◌, ◌^◌, ◌<◌, ◌%◌}
 use native.Mathlib.Omega.{arith}
 use lib.IntN.{ℤ, pos, negsuc, nat_abs}
-use mir.Syntax.{w32, w64}
-use mir.Val.{SFits, to_z, of_z}
-use mathlib.Core.Path.{◌≡◌, ◌∙◌, refl}
+use mir.Syntax.{w32}
+use mir.Val.{SFits}
+use mathlib.Core.Path.{◌≡◌, refl, sym}
 use native.Mathlib.Nat.{div-le_self}
-use mir.Facts.{to_z-of_z}
 use mathlib.Core.Bool.{true, false}
 use borrow.Author.Tests.{ltb-true, eq-eqb, ne_eqb}
 use lib.Dec.{leb}
 use lib.Signed.{lt_z}
 use mathlib.Core.List.{List}
-use lib.ListN.{drop, length, get_or, drop_of_length-le}
+use lib.ListN.{length}
+use Rattle.std.proofs.Common.{Option}
+use Rattle.std.specs.Option.{unwrap_or}
+use Rattle.std.proofs.lemmas.Iterator.{index_from_first}
 use Rattle.laws.specs.Sign.{same_z, signed}
-use Rattle.laws.proofs.Integers.{size_fits}
 use Rattle.laws.proofs.Tests.{clash}
 use Rattle.lattice.specs.Lattice.{multiple_of}
 use Rattle.ground.specs.Posts.{void, void_post}
+use Rattle.columns.proofs.Columns.{FirstWhere}
 use Rattle.written.specs.Cells.{quotient_fits, can_send, post_of, sendable}
-use Rattle.columns.proofs.Columns.{drop-cell}
 
--- ---- a cell as the machine carries it, in 64 bits too
+-- ---- a cell as the machine carries it
 
-pub cell-small : (cell : ℤ) → SFits w32 cell → nat_abs cell ≤ 2147483648
+cell-small : (cell : ℤ) → SFits w32 cell → nat_abs cell ≤ 2147483648
 cell-small (pos n) f = omega (arith, f.sfits)
 cell-small (negsuc n) f = omega (arith, f.sfits)
 
-module _ (cell : ℤ) (f : SFits w32 cell) where
-  pub wide_fits : SFits w64 (to_z w32 (of_z w32 cell))
-  wide_fits = rw (to_z-of_z f) (size_fits cell (omega (arith, cell-small cell f)))
-
-  pub wide_back : to_z w64 (of_z w64 (to_z w32 (of_z w32 cell))) ≡ cell
-  wide_back = to_z-of_z wide_fits ∙ to_z-of_z f
-
-  pub quotient-small : (z : ℕ) → nat_abs cell / z < 2 ^ 63
-  quotient-small z = omega (arith, div-le_self (nat_abs cell) z, cell-small cell f)
+pub quotient-small : (cell : ℤ) → SFits w32 cell → (z : ℕ) → nat_abs cell / z < 2 ^ 63
+quotient-small cell f z = omega (arith, div-le_self (nat_abs cell) z, cell-small cell f)
 
 -- ---- one cell
 
@@ -91,24 +85,12 @@ module _ (z : ℕ) (cell : ℤ) where
 
 -- ---- cells in order
 
-abbrev pub Sending : ℕ → List ℤ → ℕ → Type 0
-Sending z cells i = i + sendable z (drop i cells) ≡ sendable z cells
-
-module _ (z : ℕ) (cells : List ℤ) (i : ℕ) where
-  pub sending-turn : i < length cells → can_send z (get_or cells i (pos 0)) ≡ true → Sending z cells i → Sending z cells (i + 1)
-  unfolding sendable
-  sending-turn h t p =
-      let e : sendable z (drop i cells) ≡ suc (sendable z (drop (i + 1) cells)) = rw (drop-cell cells i h, t) in
-      omega (arith, e, p)
-
-  pub sending-stop : i < length cells → can_send z (get_or cells i (pos 0)) ≡ false → Sending z cells i → i ≡ sendable z cells
-  unfolding sendable
-  sending-stop h t p =
-      let e : sendable z (drop i cells) ≡ 0 = rw (drop-cell cells i h, t) in
-      omega (arith, e, p)
-
-  pub sending-end : length cells ≤ i → Sending z cells i → i ≡ sendable z cells
-  unfolding sendable
-  sending-end k p =
-      let e : sendable z (drop i cells) ≡ 0 = rw (drop_of_length-le cells k) in
-      omega (arith, e, p)
+-- as many as stand before the first that cannot be sent
+pub sendable-first : (z : ℕ) (cells : List ℤ) (found : Option ℕ)
+    → FirstWhere (λ cell. can_send z cell ≡ false) (λ cell. can_send z cell ≡ true) cells found
+    → unwrap_or found (length cells) ≡ sendable z cells
+unfolding sendable
+sendable-first z cells found first =
+    sym
+    (index_from_first (sendable z) (λ cell. can_send z cell ≡ false) (λ cell. can_send z cell ≡ true) refl (λ x xs e. rw e)
+    (λ x xs e. rw e (omega arith)) cells found first)

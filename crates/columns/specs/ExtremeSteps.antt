@@ -1,20 +1,22 @@
 -- How the code works extremes out, from the last cell: what it has of the cells looked at, and one cell more.
-use Rattle.std.specs.Prelude.{false, true, cond, not, pos, ℤ, List}
+use Rattle.std.specs.Prelude.{cond, ℤ, List, [], ◌∷◌, Option, None, Some}
 use Rattle.laws.specs.Sign.{lesser, greater, same_z}
 use Rattle.ground.specs.Posts.{void}
 use Rattle.ground.specs.Extremes.{filled_only, least_of, greatest_of}
-use Rattle.written.specs.Cells.{is_none}
 use Rattle.columns.specs.declared.Running.{Running}
 
-abbrev pub no_cell : Running
-no_cell = record { some = false; low = pos 0; high = pos 0 }
+-- a filled cell more
+abbrev pub joined : ℤ → Option Running → Running
+joined cell None = record { low = cell; high = cell }
+joined cell (Some t) = record { low = lesser cell t.low; high = greater cell t.high }
 
-abbrev pub with_cell : ℤ → Running → Running
-with_cell cell t =
-    cond (same_z cell void) t
-    (cond t.some (record { some = true; low = lesser cell t.low; high = greater cell t.high })
-    (record { some = true; low = cell; high = cell }))
+abbrev pub with_cell : ℤ → Option Running → Option Running
+with_cell cell found = cond (same_z cell void) found (Some (joined cell found))
 
-abbrev pub running : List ℤ → Running
-running cells =
-    record { some = not (is_none (filled_only cells)); low = least_of (filled_only cells); high = greatest_of (filled_only cells) }
+-- of cells that are all filled
+abbrev pub running_of : List ℤ → Option Running
+running_of [] = None
+running_of (h ∷ hs) = Some (record { low = least_of (h ∷ hs); high = greatest_of (h ∷ hs) })
+
+abbrev pub running : List ℤ → Option Running
+running cells = running_of (filled_only cells)

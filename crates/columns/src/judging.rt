@@ -2,47 +2,38 @@
 ghost use Rattle.std.specs.Prelude.{◌≡◌, true};
 ghost use Rattle.heading.specs.Heading.{header_of, header_obeys};
 ghost use Rattle.written.specs.Sending.{grid_objection, sheet_objection};
-ghost use Rattle.columns.specs.Judging.{judged_by};
+ghost use Rattle.columns.specs.Judging.{judged_by, judged_told};
 
 use crate::count_sendable;
 use frame::Header;
-use sheet::Checked;
-
-// A sheet that can be sent, or document 01's kind and number of what stands against it.
-#[derive(Drop)]
-pub enum Judged {
-    Good(Header),
-    Bad(u32, u64),
-}
+use kinds::Kind;
+use written::Refused;
 
 // "12 (0), 13 first cell .. (cell)"
-fn judge_grid(h: Header, grid: &[i32]) -> Judged
+fn judge_grid(h: Header, grid: &[i32]) -> Result<Header, Refused>
     requires { header_obeys h ≡ true }
-    ensures { result ≡ judged_by h (grid_objection h grid.now) }
+    ensures { judged_told result ≡ judged_by h (grid_objection h grid.now) }
 {
-    let columns = frame::columns(h) as usize;
-    let rows = frame::rows(h) as usize;
-    let cells = columns * rows;
+    let cells = (frame::columns(h) * frame::rows(h)) as usize;
     if grid.len() < cells {
-        return Judged::Bad(12, 0);
+        return Err(Refused::of(Kind::Room, 0));
     }
-    let n = count_sendable(frame::z_of(h), &grid[0..cells]);
+    let n = count_sendable(frame::z_of(h), &grid[..cells]);
     if n < cells {
-        return Judged::Bad(13, n as u64);
+        return Err(Refused::of(Kind::Cell, n as u64));
     }
-    Judged::Good(h)
+    Ok(h)
 }
 
 // "1 template length (number 1), 5-10 template (byte)", then the grid.
-pub fn judge_sheet(template: &[u8], grid: &[i32]) -> Judged
-    ensures { result ≡ judged_by (header_of template.now) (sheet_objection template.now grid.now) }
+pub fn judge_sheet(template: &[u8], grid: &[i32]) -> Result<Header, Refused>
+    ensures { judged_told result ≡ judged_by (header_of template.now) (sheet_objection template.now grid.now) }
 {
     if template.len() != 1024 {
-        return Judged::Bad(1, 1);
+        return Err(Refused::of(Kind::Length, 1));
     }
-    let checked = sheet::check_record_a(template);
-    match checked {
-        Checked::Refused(kind, byte) => Judged::Bad(kind, byte as u64),
-        Checked::Sheet(h) => judge_grid(h, grid),
+    match sheet::check_record_a(template) {
+        Ok(h) => judge_grid(h, grid),
+        Err(b) => Err(Refused::of(b.kind, u64::from(b.byte))),
     }
 }

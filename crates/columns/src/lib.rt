@@ -2,12 +2,12 @@
 // What the writer has to know of the grid before it writes a byte: document 01, "Writing".
 pub mod judging;
 
-ghost use Rattle.std.specs.Prelude.{◌≡◌, ◌/◌, ◌%◌, length};
+ghost use Rattle.std.specs.Prelude.{◌≡◌, ◌/◌, ◌%◌, ◌*ℤ◌, pos, length};
 ghost use Rattle.ground.specs.Posts.{void, blocks_for};
 ghost use Rattle.laws.specs.Sign.{same_z};
 ghost use Rattle.ground.specs.Extremes.{least_stated, greatest_stated};
 ghost use Rattle.written.specs.Cells.{can_send, sendable, post_of, voids_before, up_to_last, first_row, profile_cells};
-ghost use Rattle.columns.specs.ExtremeSteps.{with_cell};
+ghost use Rattle.columns.specs.ExtremeSteps.{with_cell, running};
 
 // Where a column's profile begins, and how many posts it has.
 #[derive(Drop)]
@@ -23,69 +23,54 @@ pub struct Extremes {
     pub greatest: i64,
 }
 
-// Extremes of the cells looked at so far, in hundredths.
-#[derive(Drop)]
+// Extremes of the filled cells looked at so far, in hundredths.
+#[derive(Clone, Copy)]
 struct Running {
-    some: bool,
-    low: i64,
-    high: i64,
+    low: i32,
+    high: i32,
 }
+
+// The value that marks a void cell, and the post sent for it.
+const VOID: i32 = i32::MIN;
+
+const VOID_POST: i64 = -32767;
 
 fn is_void(cell: i32) -> bool
     ensures { result ≡ same_z cell void }
 {
-    cell == -2147483648
+    cell == VOID
 }
 
 // No sheet has a spacing of 0; a stranger's call may, and gets an answer too.
 fn quotient(size: u64, z: u64) -> u64
     ensures { result ≡ size / z }
 {
-    if z == 0 {
-        return 0;
-    }
-    size / z
+    size.checked_div(z).unwrap_or(0)
 }
 
 fn rest(size: u64, z: u64) -> u64
     ensures { result ≡ size % z }
 {
-    if z == 0 {
-        return size;
-    }
-    size % z
+    size.checked_rem(z).unwrap_or(size)
 }
 
 // "a multiple of the z spacing with quotient -32766 to 32767": -32767 would be read back as void.
 pub fn can_send(z: u64, cell: i32) -> bool
     ensures { result ≡ can_send z cell }
 {
-    if is_void(cell) {
-        return true;
-    }
-    let size = number::size_of(cell as i64);
-    if rest(size, z) != 0 {
-        return false;
-    }
-    if cell < 0 {
-        return quotient(size, z) <= 32766;
-    }
-    quotient(size, z) <= 32767
+    let size = u64::from(cell.unsigned_abs());
+    let most = if cell < 0 { 32766 } else { 32767 };
+    is_void(cell) || rest(size, z) == 0 && quotient(size, z) <= most
 }
 
 // "first cell of the sheet, in cell order": all of them where each can be sent.
 pub fn count_sendable(z: u64, cells: &[i32]) -> usize
     ensures { result ≡ sendable z cells.now }
 {
-    let mut i = 0;
-    while i < cells.len() {
-        let cell = cells[i];
-        if !can_send(z, cell) {
-            return i;
-        }
-        i += 1;
-    }
-    i
+    cells
+        .iter()
+        .position(|&cell| !can_send(z, cell))
+        .unwrap_or(cells.len())
 }
 
 // "voids between as -32767"
@@ -93,57 +78,32 @@ pub fn post_of(z: u64, cell: i32) -> i64
     ensures { result ≡ post_of z cell }
 {
     if is_void(cell) {
-        return -32767;
+        return VOID_POST;
     }
-    let n = quotient(number::size_of(cell as i64), z) as i64;
-    if cell < 0 {
-        return -n;
-    }
-    n
+    let n = quotient(u64::from(cell.unsigned_abs()), z) as i64;
+    if cell < 0 { -n } else { n }
 }
 
 fn voids_before(column: &[i32]) -> usize
     ensures { result ≡ voids_before column.now }
 {
-    let mut i = 0;
-    while i < column.len() {
-        let cell = column[i];
-        if !is_void(cell) {
-            return i;
-        }
-        i += 1;
-    }
-    i
-}
-
-// How many cells there are up to the last filled one: the first met from the end.
-fn filled_end(column: &[i32]) -> usize
-    ensures { result ≡ length (up_to_last column.now) }
-{
-    let mut end = column.len();
-    while 0 < end {
-        let last = end - 1;
-        let cell = column[last];
-        if !is_void(cell) {
-            return end;
-        }
-        end = last;
-    }
-    0
+    column
+        .iter()
+        .position(|&cell| !is_void(cell))
+        .unwrap_or(column.len())
 }
 
 // "Writing", each column: its profile runs between the outermost filled rows; without any, a single void at row 0.
 pub fn scan_column(column: &[i32]) -> Column
     ensures { (result.row ≡ first_row column.now) × (result.posts ≡ length (profile_cells column.now)) }
 {
-    let end = filled_end(column);
-    if end == 0 {
+    let Some(last) = column.iter().rposition(|&cell| !is_void(cell)) else {
         return Column { row: 0, posts: 1 };
-    }
+    };
     let row = voids_before(column);
     Column {
         row,
-        posts: end - row,
+        posts: last + 1 - row,
     }
 }
 
@@ -158,44 +118,53 @@ pub fn blocks_for(posts: usize) -> u64
 }
 
 // One cell before those looked at.
-fn with_cell(cell: i32, t: Running) -> Running
-    ensures { result ≡ with_cell cell t }
+fn with_cell(cell: i32, found: Option<Running>) -> Option<Running>
+    ensures { result ≡ with_cell cell found }
 {
     if is_void(cell) {
-        return t;
+        return found;
     }
-    let h = cell as i64;
-    if !t.some {
-        return Running {
-            some: true,
-            low: h,
-            high: h,
-        };
-    }
-    Running {
-        some: true,
-        low: figures::lesser_of(h, t.low),
-        high: figures::greater_of(h, t.high),
+    match found {
+        None => Some(Running {
+            low: cell,
+            high: cell,
+        }),
+        Some(t) => Some(Running {
+            low: cell.min(t.low),
+            high: t.high.max(cell),
+        }),
     }
 }
 
-// "extremes worked out": of the filled cells, "or zero if there are none". Any i32 fits an i64 as billionths.
+// From the last cell to the first, as the extremes are defined.
+fn filled_extremes(cells: &[i32]) -> Option<Running>
+    ensures { result ≡ running cells.now }
+{
+    cells
+        .iter()
+        .rev()
+        .fold(None, |found, &cell| with_cell(cell, found))
+}
+
+// Hundredths as billionths: any i32 fits an i64.
+fn stated(height: i32) -> i64
+    ensures { result ≡ height *ℤ pos 10000000 }
+{
+    i64::from(height) * 10000000
+}
+
+// "extremes worked out": of the filled cells, "or zero if there are none".
 pub fn extremes_of(cells: &[i32]) -> Extremes
     ensures { (result.least ≡ least_stated cells.now) × (result.greatest ≡ greatest_stated cells.now) }
 {
-    let mut t = Running {
-        some: false,
-        low: 0,
-        high: 0,
-    };
-    let mut i = cells.len();
-    while 0 < i {
-        i -= 1;
-        let cell = cells[i];
-        t = with_cell(cell, t);
-    }
-    Extremes {
-        least: t.low * 10000000,
-        greatest: t.high * 10000000,
+    match filled_extremes(cells) {
+        None => Extremes {
+            least: 0,
+            greatest: 0,
+        },
+        Some(t) => Extremes {
+            least: stated(t.low),
+            greatest: stated(t.high),
+        },
     }
 }

@@ -1,7 +1,6 @@
 #![tactic(auto)]
 // The south-west corner in degrees, minutes and seconds: document 02, request 2.
 ghost use Rattle.std.specs.Prelude.{◌≡◌, ◌≤◌, ◌<◌, ◌^◌, nat_abs};
-ghost use Rattle.laws.specs.Sign.{signed};
 ghost use Rattle.number.specs.Integer.{integer};
 ghost use Rattle.number.specs.Real.{real};
 ghost use Rattle.field.specs.Field.{stretch};
@@ -12,28 +11,26 @@ const DEGREE: u64 = 3600000000000;
 
 const MINUTE: u64 = 60000000000;
 
-fn join(minus: bool, size: u64) -> i64
-    requires { size < 2 ^ 63 }
-    ensures { result ≡ signed minus size }
-{
-    if minus { -(size as i64) } else { size as i64 }
-}
-
 fn size_at(block: &[u8], first: usize, width: usize) -> u64
-    ensures { result ≡ nat_abs (integer (stretch first width block.now)).value }
+    ensures size { result ≡ nat_abs (integer (stretch first width block.now)).value }
+    ensures small { result < 10 ^ 6 }
 {
-    let r = number::read_integer(field::stretch_of(block, first, width));
-    number::size_of(r.value)
+    number::read_integer(field::stretch_of(block, first, width))
+        .unwrap_or(0)
+        .unsigned_abs()
 }
 
 fn seconds_at(block: &[u8], first: usize) -> u64
-    ensures { result ≡ nat_abs (real (stretch first 7 block.now)).value }
+    ensures size { result ≡ nat_abs (real (stretch first 7 block.now)).value }
+    ensures small { result < 10 ^ 18 }
 {
-    let r = number::read_real(field::stretch_of(block, first, 7));
-    number::size_of(r.value)
+    number::read_real(field::stretch_of(block, first, 7))
+        .unwrap_or(0)
+        .unsigned_abs()
 }
 
 // The sign is read from the degrees' bytes: a reading of `-0` has lost it.
+#[tactic(auto, unfolding(crate::specs::Corner::arc_seconds))]
 fn arc_seconds(block: &[u8], first: usize) -> i64
     requires { first ≤ 1024 }
     ensures { result ≡ arc_seconds first block.now }
@@ -41,15 +38,17 @@ fn arc_seconds(block: &[u8], first: usize) -> i64
     let degrees = size_at(block, first, 4);
     let minutes = size_at(block, first + 4, 2);
     let seconds = seconds_at(block, first + 6);
-    let minus = number::is_minus(field::stretch_of(block, first, 4));
-    join(minus, degrees * DEGREE + minutes * MINUTE + seconds)
+    let size = (degrees * DEGREE + minutes * MINUTE + seconds) as i64;
+    if number::is_minus(field::stretch_of(block, first, 4)) {
+        -size
+    } else {
+        size
+    }
 }
 
 // Whether the text says this corner, longitude x and latitude y. Any block is answered.
 pub fn says(block: &[u8], x: i64, y: i64) -> bool
     ensures { result ≡ says_corner block.now x y }
 {
-    let longitude = arc_seconds(block, 110);
-    let latitude = arc_seconds(block, 123);
-    figures::both(figures::same(longitude, x), figures::same(latitude, y))
+    arc_seconds(block, 110) == x && arc_seconds(block, 123) == y
 }

@@ -14,19 +14,18 @@ use session::Session;
 fn keep_taken(before: u64, after: Session, numbers: &mut [i64])
     ensures { numbers.new ≡ taken_kept before after numbers.old }
 {
-    if after.taken <= before {
-        return;
+    if before < after.taken {
+        ledger::keep(after, numbers);
     }
-    ledger::keep(after, numbers);
 }
 
 // The answer as a number, and what stands beside it.
+// Kept: not one with ledger's `settle`, which also keeps the session and hands two numbers; a common one would be public and take what is handed.
 fn tell(ran: Ran, answer: &mut [u64]) -> u32
     ensures { (result ≡ answer_kind ran.answer) × (answer.new ≡ handed (beside_run ran.answer ran.count) answer.old) }
 {
-    let told = ran.answer;
     let count = ran.count;
-    match told {
+    match ran.answer {
         Answer::Taken => {
             slip::hand(&[0, 0, count], answer);
             0
@@ -36,7 +35,7 @@ fn tell(ran: Ran, answer: &mut [u64]) -> u32
             255
         }
         Answer::Refused(kind, block, byte) => {
-            slip::hand(&[block, byte as u64, count], answer);
+            slip::hand(&[block, u64::from(byte), count], answer);
             kind
         }
     }

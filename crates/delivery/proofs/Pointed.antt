@@ -11,21 +11,21 @@ use lib.IntN.{ℤ}
 use lib.ListN.{length}
 use Rattle.laws.specs.Sign.{same_z}
 use Rattle.laws.proofs.Tests.{either, by-test}
-use Rattle.field.specs.declared.Fault.{Fault}
+use Rattle.field.specs.Field.{Fault}
 use Rattle.field.specs.Rules.{Clause, Pointed}
 use Rattle.field.proofs.Points.{pointed-front, pointed-behind}
 use Rattle.sheet.specs.RecordA.{record_of}
 use Rattle.sheet.specs.RulesA.{rules_for}
-use Rattle.sheet.specs.declared.Checked.{Checked}
-use Rattle.sheet.specs.declared.Checked.TheVariants.{Sheet, Refused as NoSheet}
+use Rattle.sheet.specs.RecordA.{Checked}
+use Rattle.sheet.specs.RecordA.Checked.{Sheet, Refused as NoSheet}
 use Rattle.sheet.proofs.RulesA.{record-a-pointed}
 use Rattle.profile.specs.RecordB.{head_of, record_b}
 use Rattle.profile.specs.RecordC.{record_c}
 use Rattle.profile.specs.RulesB.{rules_head}
 use Rattle.profile.specs.RulesC.{rules_c}
 use Rattle.profile.specs.declared.record_b.Head.{Head}
-use Rattle.profile.specs.declared.record_b.Headed.{Headed}
-use Rattle.profile.specs.declared.record_b.Headed.TheVariants.{Profile as Headed-as-Profile, Refused as NoProfile}
+use Rattle.profile.specs.RecordB.{Headed}
+use Rattle.profile.specs.RecordB.Headed.{Profile as Headed-as-Profile, Refused as NoProfile}
 use Rattle.profile.proofs.RecordRules.{head-pointed, profile-exactly, record-c-pointed}
 use Rattle.ground.specs.Posts.{posts_rest_fault}
 use Rattle.ground.specs.RulesPosts.{rules_block}
@@ -34,7 +34,7 @@ use Rattle.session.specs.declared.Session.{Session}
 use Rattle.session.specs.declared.Profile.{Profile}
 use Rattle.session.specs.Session.{sound, busy, complete, open_blocks}
 use Rattle.delivery.specs.declared.Answer.TheVariants.{Refused}
-use Rattle.delivery.specs.declared.Refusal.{Refusal}
+use Rattle.delivery.specs.Deliver.{Refusal}
 use Rattle.delivery.specs.Deliver.{Lent, Room, room_of, too_short, Verdict, again, wrong, begins, fills, unless, refusal, stated, close_fault, filled_session, closed_session, next_cell, heights_here, posts_here, filling, further, column_fits, column_place, row_fits, row_place, first_column, opened, opening, finished_session, later, beginning, verdict_of, answer_of, deliver_of}
 use Rattle.delivery.specs.RulesDue.{rules_first, rules_later, rules_due}
 

@@ -17,14 +17,14 @@ use Rattle.frame.specs.Frame.{columns_of, rows_of, z_of}
 use Rattle.heading.specs.Heading.{is_real_number}
 use Rattle.heading.proofs.HeadingFacts.{family-facts}
 use Rattle.sheet.specs.RecordA.{record_of}
-use Rattle.sheet.specs.declared.Checked.TheVariants.{Sheet, Refused as NoSheet}
-use Rattle.sheet.specs.declared.Checked.{Checked}
+use Rattle.sheet.specs.RecordA.Checked.{Sheet, Refused as NoSheet}
+use Rattle.sheet.specs.RecordA.{Checked}
 use Rattle.sheet.proofs.SheetObeys.{family-sheet-obeys, real-number}
 use Rattle.profile.specs.RecordB.{record_b}
 use Rattle.profile.specs.declared.record_b.Head.{Head}
-use Rattle.profile.specs.declared.record_b.Headed.TheVariants.{Profile as Headed-as-Profile, Refused as NoProfile}
+use Rattle.profile.specs.RecordB.Headed.{Profile as Headed-as-Profile, Refused as NoProfile}
 use Rattle.profile.specs.RecordC.{record_c}
-use Rattle.profile.specs.declared.record_b.Headed.{Headed}
+use Rattle.profile.specs.RecordB.{Headed}
 use Rattle.profile.proofs.RecordLaws.{head-bounds, head-reals, head-posts}
 use Rattle.session.specs.Session.{sound, begun, busy, open_read, open_blocks, complete}
 use Rattle.session.specs.declared.Session.{Session}

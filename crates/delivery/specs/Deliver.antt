@@ -1,19 +1,18 @@
 -- Document 01, "What a delivery answers": what one delivery answers, for every session, of either family, number, block and grid.
+use Rattle.std.specs.Prelude.{None, Option, Some}
 use Rattle.std.specs.Prelude.{List, [], ◌∷◌, ◌++◌, ℕ, ◌^◌, ◌+◌, ◌-◌, min, ◌*◌, ℤ, pos, ◌+ℤ◌, ◌*ℤ◌, cond, Bool, false, not, eqb, ltb, leb, length, drop, replicate}
 use Rattle.std.proofs.lemmas.List.Edits.{sets}
 use Rattle.laws.specs.Sign.{same_z}
-use Rattle.lattice.specs.declared.Place.{Place}
-use Rattle.lattice.specs.declared.Place.TheVariants.{On, Off}
 use Rattle.lattice.specs.Lattice.{lattice_of, place_of, place_number}
-use Rattle.field.specs.declared.Fault.{Fault}
+use Rattle.field.specs.Field.{Fault}
 use Rattle.frame.specs.declared.Header.{Header}
 use Rattle.frame.specs.Frame.{rows_of, z_of, columns_of, west, east, south, north, cells_of}
-use Rattle.sheet.specs.declared.Checked.{Checked}
-use Rattle.sheet.specs.declared.Checked.TheVariants.{Sheet, Refused as NoSheet}
+use Rattle.sheet.specs.RecordA.{Checked}
+use Rattle.sheet.specs.RecordA.Checked.{Sheet, Refused as NoSheet}
 use Rattle.sheet.specs.RecordA.{record_of}
 use Rattle.profile.specs.declared.record_b.Head.{Head}
-use Rattle.profile.specs.declared.record_b.Headed.{Headed}
-use Rattle.profile.specs.declared.record_b.Headed.TheVariants.{Profile as Headed-as-Profile, Refused as NoProfile}
+use Rattle.profile.specs.RecordB.{Headed}
+use Rattle.profile.specs.RecordB.Headed.{Profile as Headed-as-Profile, Refused as NoProfile}
 use Rattle.profile.specs.RecordB.{record_b}
 use Rattle.profile.specs.RecordC.{record_c}
 use Rattle.session.specs.declared.Session.{Session}
@@ -22,7 +21,6 @@ use Rattle.session.specs.Session.{no_profile, open_blocks, busy, sound, complete
 use Rattle.ground.specs.declared.Tally.{Tally}
 use Rattle.ground.specs.Posts.{tally_all, posts_of, heights, posts_rest_fault, void}
 use Rattle.ground.specs.Extremes.{filled_only, sum_of}
-use Rattle.delivery.specs.declared.Refusal.{Refusal}
 use Rattle.delivery.specs.declared.Answer.{Answer}
 use Rattle.delivery.specs.declared.Answer.TheVariants.{Taken, Held, Refused}
 use Rattle.delivery.specs.declared.Delivered.{Delivered}
@@ -72,6 +70,12 @@ profile_tally p = record { filled = p.filled; low = p.low; high = p.high }
 -- what a closing profile must state, zero where it filled no cell: hundredths as billionths
 abbrev pub stated : ℕ → ℤ → ℤ
 stated filled extreme = cond (eqb filled 0) (pos 0) (extreme *ℤ pos (10 ^ 7))
+
+-- a broken closing rule: kind, block and byte
+pub record Refusal : Type 0 where
+  pub kind : ℕ
+  pub block : ℕ
+  pub byte : ℕ
 
 abbrev pub refusal : ℕ → ℕ → ℕ → Refusal
 refusal kind block byte = record { kind = kind; block = block; byte = byte }
@@ -172,31 +176,31 @@ further s number block =
     unless (posts_rest_fault 1 n block) number (filling s number s.column p (heights_here s p 1 n block))
 
 -- "x is on the lattice": the first profile so that all n find room, every other one column east of the one before
-abbrev pub column_fits : Session → Place → Bool
-column_fits s (On c) =
+abbrev pub column_fits : Session → Option ℕ → Bool
+column_fits s (Some c) =
     cond (eqb s.closed 0) (leb (c + s.header.profiles) (columns_of s.header)) (eqb c (s.column + s.closed))
-column_fits s Off = false
+column_fits s None = false
 
 -- "y is on the lattice": and the m posts from its row on do not pass the rows
-abbrev pub row_fits : Session → ℕ → Place → Bool
-row_fits s posts (On r) = leb (r + posts) (rows_of s.header)
-row_fits s posts Off = false
+abbrev pub row_fits : Session → ℕ → Option ℕ → Bool
+row_fits s posts (Some r) = leb (r + posts) (rows_of s.header)
+row_fits s posts None = false
 
-abbrev pub column_place : Session → Head → Place
+abbrev pub column_place : Session → Head → Option ℕ
 column_place s h = place_of (lattice_of (west s.header) (east s.header) s.header.xstep) s.header.xstep h.x
 
-abbrev pub row_place : Session → Head → Place
+abbrev pub row_place : Session → Head → Option ℕ
 row_place s h = place_of (lattice_of (south s.header) (north s.header) s.header.ystep) s.header.ystep h.y
 
 -- the first profile's column, with a profile at this place
-abbrev pub column_from : Session → Place → ℕ
+abbrev pub column_from : Session → Option ℕ → ℕ
 column_from s p = cond (eqb s.closed 0) (place_number p) s.column
 
 abbrev pub first_column : Session → Head → ℕ
 first_column s h = column_from s (column_place s h)
 
 -- a profile that opens with its southern post at this place, and no post read yet
-abbrev pub opened_at : Head → Place → Profile
+abbrev pub opened_at : Head → Option ℕ → Profile
 opened_at h p =
     record {
       posts = h.posts;

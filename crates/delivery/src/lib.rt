@@ -3,6 +3,7 @@
 use session::Session;
 
 // A refusal has document 01's kind, the block and the byte.
+// Kept: no Result, and the kind as its number, since 01 names this form: "an enum with data .. whose refusal case carries three numbers".
 #[derive(Drop)]
 pub enum Answer {
     Taken,
@@ -14,12 +15,4 @@ pub enum Answer {
 pub struct Delivered {
     pub answer: Answer,
     pub session: Session,
-}
-
-// A broken closing rule: kind, block and byte. Kind 0: none is broken.
-#[derive(Drop)]
-pub struct Refusal {
-    pub kind: u32,
-    pub block: u64,
-    pub byte: u32,
 }

@@ -1,9 +1,9 @@
 -- What the C calls answer, as numbers.
 use Rattle.std.specs.Prelude.{ℕ, Bool, cond, List, [], ◌∷◌}
 use Rattle.frame.specs.Frame.{columns_of, rows_of}
-use Rattle.sheet.specs.declared.Checked.{Checked}
-use Rattle.sheet.specs.declared.Checked.TheVariants.{Sheet, Refused}
-use Rattle.written.specs.declared.Sent.{Sent}
+use Rattle.sheet.specs.RecordA.{Checked}
+use Rattle.sheet.specs.RecordA.Checked.{Sheet, Refused}
+use Rattle.written.specs.Sending.{Sent}
 use Rattle.written.specs.Sending.{sent_number}
 
 -- "1 or 0"

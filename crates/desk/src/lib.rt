@@ -11,78 +11,65 @@ ghost use Rattle.lines.specs.Lines.{Given};
 ghost use Rattle.slip.specs.Slip.{handed};
 ghost use Rattle.ledger.specs.Ledger.{open_kind, opened_with, delivered_to, grid_left, numbers_left, sound_said, complete_said, report_said};
 ghost use Rattle.courier.specs.Courier.{ran_to, numbers_run, grid_run, beside_run};
-ghost use Rattle.written.specs.Sending.{block_objection, block_after, count_of, sent_by, sent_kind, sheet_sent_objection, sheet_after};
+ghost use Rattle.written.specs.Sending.{block_objection, block_after, count_of, sent_by, sent_told, sent_kind, sheet_sent_objection, sheet_after};
 ghost use Rattle.desk.specs.Calls.{one_if, columns_checked, rows_checked, sent_beside};
 
-use sheet::Checked;
-use written::Sent;
+use written::Refused;
 
 // 0, or document 01's number of the refusal.
 pub fn dem_integer_kind(field: &[u8]) -> u32
     ensures { result ≡ (integer field.now).kind }
 {
-    let r = number::read_integer(field);
-    r.kind
+    number::read_integer(field).map_or_else(|u| u.kind.number(), |_| 0)
 }
 
 // 0 where the field is refused.
 pub fn dem_integer_value(field: &[u8]) -> i64
     ensures { result ≡ (integer field.now).value }
 {
-    let r = number::read_integer(field);
-    r.value
+    number::read_integer(field).unwrap_or(0)
 }
 
 // The byte of a field of wrong form, counted from 1, that first makes its form impossible; 0 for every other kind.
 pub fn dem_integer_byte(field: &[u8]) -> u32
     ensures { result ≡ (integer field.now).byte }
 {
-    let r = number::read_integer(field);
-    r.byte as u32
+    number::read_integer(field).map_or_else(|u| u32::from(u.byte), |_| 0)
 }
 
 // 0, or document 01's number of the refusal.
 pub fn dem_real_kind(field: &[u8]) -> u32
     ensures { result ≡ (real field.now).kind }
 {
-    let r = number::read_real(field);
-    r.kind
+    number::read_real(field).map_or_else(|u| u.kind.number(), |_| 0)
 }
 
 // In billionths; 0 where the field is refused.
 pub fn dem_real_value(field: &[u8]) -> i64
     ensures { result ≡ (real field.now).value }
 {
-    let r = number::read_real(field);
-    r.value
+    number::read_real(field).unwrap_or(0)
 }
 
 // As `dem_integer_byte`.
 pub fn dem_real_byte(field: &[u8]) -> u32
     ensures { result ≡ (real field.now).byte }
 {
-    let r = number::read_real(field);
-    r.byte as u32
+    number::read_real(field).map_or_else(|u| u32::from(u.byte), |_| 0)
 }
 
 // 0, or the number of the first rule of a family's record A that the block breaks; 2 for a family that there is none of.
 pub fn dem_family_record_a_kind(family: u32, block: &[u8]) -> u32
     ensures { result ≡ checked_kind (record_of family block.now) }
 {
-    match sheet::check_family(family as u64, block) {
-        Checked::Sheet(_) => 0,
-        Checked::Refused(kind, _) => kind,
-    }
+    sheet::check_family(u64::from(family), block).map_or_else(|b| b.kind.number(), |_| 0)
 }
 
 // The byte where that rule stands, counted from 1; 0 where none is broken, and for kinds 1 and 2.
 pub fn dem_family_record_a_byte(family: u32, block: &[u8]) -> u32
     ensures { result ≡ checked_byte (record_of family block.now) }
 {
-    match sheet::check_family(family as u64, block) {
-        Checked::Sheet(_) => 0,
-        Checked::Refused(_, byte) => byte,
-    }
+    sheet::check_family(u64::from(family), block).map_or_else(|b| b.byte, |_| 0)
 }
 
 // The same of a USGS sheet.
@@ -102,7 +89,7 @@ pub fn dem_record_a_byte(block: &[u8]) -> u32
 pub fn dem_family_origin(family: u32, block: &[u8]) -> u32
     ensures { result ≡ family_origin family block.now }
 {
-    label::family_origin(family as u64, block)
+    label::family_origin(u64::from(family), block)
 }
 
 // 1 to 6, or 0 for any other text or length.
@@ -116,8 +103,7 @@ pub fn dem_origin(block: &[u8]) -> u32
 pub fn dem_name_length(block: &[u8]) -> usize
     ensures { result ≡ name_length block.now }
 {
-    let name = label::name(block);
-    name.len()
+    label::name(block).len()
 }
 
 // A fresh session for sheets of a family, whatever its number: 0, or 12 and nothing changed where there are too few numbers.
@@ -153,41 +139,29 @@ pub fn dem_deliver_run(
     courier::deliver_run(session, number, blocks, grid, answer)
 }
 
-fn one_if(b: bool) -> u32
-    ensures { result ≡ one_if b }
-{
-    if b { 1 } else { 0 }
-}
-
 pub fn dem_is_sound(session: &[i64]) -> u32
     ensures { result ≡ one_if (sound_said session.now) }
 {
-    one_if(ledger::is_sound(session))
+    u32::from(ledger::is_sound(session))
 }
 
 pub fn dem_is_complete(session: &[i64]) -> u32
     ensures { result ≡ one_if (complete_said session.now) }
 {
-    one_if(ledger::is_complete(session))
+    u32::from(ledger::is_complete(session))
 }
 
 // The columns and rows of a record A's sheet, so that a caller knows how large a grid to lend; 0 where it is refused.
 pub fn dem_family_columns(family: u32, block: &[u8]) -> u64
     ensures { result ≡ columns_checked (record_of family block.now) }
 {
-    match sheet::check_family(family as u64, block) {
-        Checked::Sheet(h) => frame::columns(h),
-        Checked::Refused(_, _) => 0,
-    }
+    sheet::check_family(u64::from(family), block).map_or(0, frame::columns)
 }
 
 pub fn dem_family_rows(family: u32, block: &[u8]) -> u64
     ensures { result ≡ rows_checked (record_of family block.now) }
 {
-    match sheet::check_family(family as u64, block) {
-        Checked::Sheet(h) => frame::rows(h),
-        Checked::Refused(_, _) => 0,
-    }
+    sheet::check_family(u64::from(family), block).map_or(0, frame::rows)
 }
 
 pub fn dem_columns(block: &[u8]) -> u64
@@ -210,17 +184,17 @@ pub fn dem_block_count(template: &[u8], grid: &[i32]) -> u64
 }
 
 // The writer's answer: 0 written, else document 01's kind; beside it its one number.
-fn tell(sent: Sent, answer: &mut [u64]) -> u32
-    ensures { (result ≡ sent_kind sent) × (answer.new ≡ handed (sent_beside sent) answer.old) }
+fn tell(sent: Result<(), Refused>, answer: &mut [u64]) -> u32
+    ensures { (result ≡ sent_kind (sent_told sent)) × (answer.new ≡ handed (sent_beside (sent_told sent)) answer.old) }
 {
     match sent {
-        Sent::Written => {
+        Ok(()) => {
             slip::hand(&[0], answer);
             0
         }
-        Sent::Refused(kind, number) => {
-            slip::hand(&[number], answer);
-            kind
+        Err(refused) => {
+            slip::hand(&[refused.number], answer);
+            refused.kind.number()
         }
     }
 }
@@ -234,7 +208,7 @@ pub fn dem_write_block(
 ) -> u32
     ensures { (result ≡ sent_kind (sent_by (block_objection template.now grid.now number (length block.old)))) × ((block.new ≡ block_after template.now grid.now number block.old) × (answer.new ≡ handed (sent_beside (sent_by (block_objection template.now grid.now number (length block.old)))) answer.old)) }
 {
-    let sent = send::write_block(template, grid, number as u64, block);
+    let sent = send::write_block(template, grid, u64::from(number), block);
     tell(sent, answer)
 }
 

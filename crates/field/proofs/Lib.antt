@@ -4,3 +4,4 @@ pub mod Rules
 pub mod FieldRules
 pub mod Points
 pub mod OneAnswer
+pub mod OneTold

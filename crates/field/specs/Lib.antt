@@ -1,3 +1,3 @@
 pub mod Field
 pub mod Rules
-pub mod Steps
+pub mod Told

@@ -1,5 +1,6 @@
 -- No second answer: for each public function its contract, as it stands, leaves one result and one state of what was lent.
 use Rattle.laws.proofs.Answers.{one_answer, OneResult}
+use Rattle.field.proofs.OneTold.{checked-one}
 use Rattle.frame.proofs.column_lattice.Reads as column-lattice·told
 use Rattle.frame.proofs.column_of.Reads as column-of·told
 use Rattle.frame.proofs.columns.Reads as columns·told
@@ -24,7 +25,7 @@ pub rows : OneResult rows·told.Learnt
 rows κs a z z' e e' p q = one_answer p q
 
 pub judge-whole : OneResult judge-whole·told.Learnt
-judge-whole κs a z z' e e' p q = one_answer p q
+judge-whole κs a z z' e e' p q = checked-one z z' (one_answer p q)
 
 pub has_room : OneResult has-room·told.Learnt
 has_room κs a z z' e e' p q = one_answer p q
@@ -39,4 +40,4 @@ pub row_of : OneResult row-of·told.Learnt
 row_of κs a z z' e e' p q = one_answer p q
 
 pub judge-family : OneResult judge-family·told.Learnt
-judge-family κs a z z' e e' p q = one_answer p q
+judge-family κs a z z' e e' p q = checked-one z z' (one_answer p q)

@@ -1,11 +1,11 @@
 -- Document 01, "Record A": corners, lattices, columns and rows, and the rules over the whole record.
+use Rattle.std.specs.Prelude.{Option}
 use Rattle.std.specs.Prelude.{Bool, true, false, cond, List, [], ◌∷◌, ℤ, ℕ, ◌*◌, ◌/◌, ◌^◌, leb, eqb}
 use Rattle.std.specs.Int.Signed.{lt_z}
 use Rattle.laws.specs.Family.{is_canadian}
 use Rattle.laws.specs.Sign.{◌and◌, lesser, greater}
 use Rattle.lattice.specs.Lattice.{lattice_of, place_of}
-use Rattle.lattice.specs.declared.Place.{Place}
-use Rattle.field.specs.declared.Fault.{Fault}
+use Rattle.field.specs.Field.{Fault}
 use Rattle.field.specs.Field.{fault}
 use Rattle.frame.specs.declared.Header.{Header}
 
@@ -82,8 +82,8 @@ abbrev pub z_of : Header → ℕ
 z_of h = h.zstep / 10 ^ 7
 
 -- where an x stands among the columns, and a y among the rows
-abbrev pub column_place_of : Header → ℤ → Place
+abbrev pub column_place_of : Header → ℤ → Option ℕ
 column_place_of h x = place_of (lattice_of (west h) (east h) h.xstep) h.xstep x
 
-abbrev pub row_place_of : Header → ℤ → Place
+abbrev pub row_place_of : Header → ℤ → Option ℕ
 row_place_of h y = place_of (lattice_of (south h) (north h) h.ystep) h.ystep y

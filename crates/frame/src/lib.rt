@@ -4,21 +4,22 @@ ghost use Rattle.std.specs.Prelude.{◌≡◌, leb};
 ghost use Rattle.std.specs.Int.Signed.{lt_z};
 ghost use Rattle.laws.specs.Sign.{lesser, greater};
 ghost use Rattle.lattice.specs.Lattice.{lattice_of};
+ghost use Rattle.field.specs.Told.{fault_told};
 ghost use Rattle.frame.specs.Frame.{west, east, south, north, columns_of, rows_of, corners_in_order, one_to2048, whole_fault, pairs, listed, canadian_fault, family_fault, cells_of, z_of, column_place_of, row_place_of};
-ghost use Rattle.frame.specs.Steps.{one_of};
 
-use field::Fault;
-use lattice::{Lattice, Place};
+use field::Broken;
+use kinds::Kind;
+use lattice::Lattice;
 
 // In billionths of the ground unit.
-#[derive(Clone, Copy)]
+#[derive(Clone, Copy, Default, PartialEq, Eq)]
 pub struct Corner {
     pub x: i64,
     pub y: i64,
 }
 
 // What a good record A says, in document 01's order; reals and spacings in billionths.
-#[derive(Clone, Copy)]
+#[derive(Clone, Copy, Default, PartialEq, Eq)]
 pub struct Header {
     pub level: u64,
     pub system: u64,
@@ -41,13 +42,13 @@ pub struct Header {
 fn least_of(a: i64, b: i64, c: i64, d: i64) -> i64
     ensures { result ≡ lesser (lesser a b) (lesser c d) }
 {
-    figures::lesser_of(figures::lesser_of(a, b), figures::lesser_of(c, d))
+    a.min(b).min(c.min(d))
 }
 
 fn greatest_of(a: i64, b: i64, c: i64, d: i64) -> i64
     ensures { result ≡ greater (greater a b) (greater c d) }
 {
-    figures::greater_of(figures::greater_of(a, b), figures::greater_of(c, d))
+    d.max(c).max(b.max(a))
 }
 
 // The lattice over one coordinate of the four corners.
@@ -61,21 +62,13 @@ fn lattice_over(a: i64, b: i64, c: i64, d: i64, spacing: u64) -> Lattice
 pub fn column_lattice(h: Header) -> Lattice
     ensures { result ≡ lattice_of (west h) (east h) h.xstep }
 {
-    let sw = h.sw;
-    let nw = h.nw;
-    let ne = h.ne;
-    let se = h.se;
-    lattice_over(sw.x, nw.x, ne.x, se.x, h.xstep)
+    lattice_over(h.sw.x, h.nw.x, h.ne.x, h.se.x, h.xstep)
 }
 
 pub fn row_lattice(h: Header) -> Lattice
     ensures { result ≡ lattice_of (south h) (north h) h.ystep }
 {
-    let sw = h.sw;
-    let nw = h.nw;
-    let ne = h.ne;
-    let se = h.se;
-    lattice_over(sw.y, nw.y, ne.y, se.y, h.ystep)
+    lattice_over(h.sw.y, h.nw.y, h.ne.y, h.se.y, h.ystep)
 }
 
 // How many columns, and how many rows.
@@ -91,107 +84,65 @@ pub fn rows(h: Header) -> u64
     row_lattice(h).count
 }
 
-fn is_less(a: i64, b: i64) -> bool
-    ensures { result ≡ lt_z a b }
-{
-    a < b
-}
-
 fn corners_in_order(h: Header) -> bool
     ensures { result ≡ corners_in_order h }
 {
-    let sw = h.sw;
-    let nw = h.nw;
-    let ne = h.ne;
-    let se = h.se;
-    if !is_less(sw.x, se.x) {
-        return false;
-    }
-    if !is_less(nw.x, ne.x) {
-        return false;
-    }
-    if !is_less(sw.y, nw.y) {
-        return false;
-    }
-    is_less(se.y, ne.y)
+    h.sw.x < h.se.x && h.nw.x < h.ne.x && h.sw.y < h.nw.y && h.se.y < h.ne.y
 }
 
 fn one_to_2048(n: u64) -> bool
     ensures { result ≡ one_to2048 n }
 {
-    if n < 1 {
-        return false;
-    }
-    n <= 2048
+    matches!(n, 1..=2048)
 }
 
 // The rules over the whole record, in their order.
-pub fn judge_whole(h: Header) -> Fault
-    ensures { result ≡ whole_fault h }
+pub fn judge_whole(h: Header) -> Result<(), Broken>
+    ensures { fault_told result ≡ whole_fault h }
 {
     if !corners_in_order(h) {
-        return field::fault_of(10, 547);
+        return Err(Broken::at(Kind::Place, 547));
     }
-    let columns = column_lattice(h);
-    let rows = row_lattice(h);
-    if !one_to_2048(columns.count) {
-        return field::fault_of(10, 817);
+    let columns = columns(h);
+    if !one_to_2048(columns) || !one_to_2048(rows(h)) {
+        return Err(Broken::at(Kind::Place, 817));
     }
-    if !one_to_2048(rows.count) {
-        return field::fault_of(10, 817);
+    if columns < h.profiles {
+        return Err(Broken::at(Kind::Place, 859));
     }
-    if columns.count < h.profiles {
-        return field::fault_of(10, 859);
-    }
-    field::fault_of(0, 0)
+    Ok(())
 }
 
-fn one_of(x: u64, a: u64, b: u64, c: u64) -> bool
-    ensures { result ≡ one_of x a b c }
-{
-    if x == a {
-        return true;
-    }
-    if x == b {
-        return true;
-    }
-    x == c
-}
-
-// The listed pairs of spacings: y is 0.75 or 3, and x goes by it.
+// The listed pairs of spacings.
 fn is_pair(x: u64, y: u64) -> bool
     ensures { result ≡ listed x y pairs }
 {
-    if y == 750000000 {
-        return one_of(x, 750000000, 1500000000, 3000000000);
+    match y {
+        750000000 => matches!(x, 750000000 | 1500000000 | 3000000000),
+        3000000000 => matches!(x, 3000000000 | 6000000000 | 12000000000),
+        _ => false,
     }
-    if y == 3000000000 {
-        return one_of(x, 3000000000, 6000000000, 12000000000);
-    }
-    false
 }
 
 // The pair before the lattice: a spacing may be zero here.
-fn judge_canadian(h: Header) -> Fault
-    ensures { result ≡ canadian_fault h }
+fn judge_canadian(h: Header) -> Result<(), Broken>
+    ensures { fault_told result ≡ canadian_fault h }
 {
     if !is_pair(h.xstep, h.ystep) {
-        return field::fault_of(7, 817);
+        return Err(Broken::at(Kind::Range, 817));
     }
     if !corners_in_order(h) {
-        return field::fault_of(10, 547);
+        return Err(Broken::at(Kind::Place, 547));
     }
-    let columns = column_lattice(h);
-    let rows = row_lattice(h);
-    if figures::both(columns.count == 1201, rows.count == 1201) {
-        return field::fault_of(0, 0);
+    if columns(h) != 1201 || rows(h) != 1201 {
+        return Err(Broken::at(Kind::Place, 817));
     }
-    field::fault_of(10, 817)
+    Ok(())
 }
 
 // The rules over the whole record, of either family.
-pub fn judge_family(family: u64, h: Header) -> Fault
-    ensures { result ≡ family_fault family h }
+pub fn judge_family(family: u64, h: Header) -> Result<(), Broken>
+    ensures { fault_told result ≡ family_fault family h }
 {
     if family == 1 {
         return judge_canadian(h);
@@ -199,16 +150,13 @@ pub fn judge_family(family: u64, h: Header) -> Fault
     judge_whole(h)
 }
 
-// Whether so many cells are enough for the sheet. The product may not fit a u64, so the cells are divided.
+// Whether so many cells are enough for the sheet. The product may not fit a u64.
 pub fn has_room(h: Header, cells: u64) -> bool
     ensures { result ≡ leb (cells_of h) cells }
 {
-    let columns = column_lattice(h);
-    let rows = row_lattice(h);
-    if columns.count == 0 {
-        return true;
-    }
-    rows.count <= cells / columns.count
+    columns(h)
+        .checked_mul(rows(h))
+        .is_some_and(|all| all <= cells)
 }
 
 // The z spacing in hundredths.
@@ -219,13 +167,13 @@ pub fn z_of(h: Header) -> u64
 }
 
 // The column of an x, and the row of a y.
-pub fn column_of(h: Header, x: i64) -> Place
+pub fn column_of(h: Header, x: i64) -> Option<u64>
     ensures { result ≡ column_place_of h x }
 {
     lattice::locate(column_lattice(h), h.xstep, x)
 }
 
-pub fn row_of(h: Header, y: i64) -> Place
+pub fn row_of(h: Header, y: i64) -> Option<u64>
     ensures { result ≡ row_place_of h y }
 {
     lattice::locate(row_lattice(h), h.ystep, y)

@@ -10,18 +10,18 @@ use borrow.Author.Tests.{eqb-true, eqb-false, ltb-false, lt-ltb, le-ltb, leb-tru
 use Rattle.frame.specs.Frame.{cells_of}
 use Rattle.frame.specs.declared.Header.{Header}
 use Rattle.sheet.specs.RecordA.{record_of}
-use Rattle.sheet.specs.declared.Checked.{Checked}
-use Rattle.sheet.specs.declared.Checked.TheVariants.{Sheet, Refused as NoSheet}
 use Rattle.session.specs.declared.Session.{Session}
 use Rattle.session.specs.Session.{sound, complete}
-use Rattle.delivery.specs.Deliver.{Verdict, Room, again, wrong, begins, beginning, later, verdict_of}
+use Rattle.delivery.specs.Deliver.{Verdict, Room, again, wrong, beginning, later, verdict_of}
+use Rattle.kinds.specs.declared.Kind.{Kind}
+use Rattle.kinds.specs.declared.Kind.TheVariants.{Length, Unsound, Early, Complete, Room as Short}
+use Rattle.kinds.specs.Kinds.{number_of}
 use Rattle.gate.specs.declared.verdict.Gate.{Gate}
 use Rattle.gate.specs.declared.verdict.Gate.TheVariants.{Stop, Again, Begin, Later}
-use Rattle.gate.specs.Gate.{room, gate_by, gate_of, judged_of}
-use Rattle.gate.specs.declared.verdict.Judged.{Judged}
+use Rattle.gate.specs.Gate.{gate_by, gate_of}
 
 abbrev pub by_gate : Session → ℕ → List ℕ → Room → Gate → Verdict
-by_gate s number block m (Stop kind) = wrong kind number 0
+by_gate s number block m (Stop kind) = wrong (number_of kind) number 0
 by_gate s number block m Again = again
 by_gate s number block m Begin = beginning m (record_of s.family block)
 by_gate s number block m Later = later s number block
@@ -30,21 +30,6 @@ by_gate s number block m Later = later s number block
 enough : (h : Header) (cells : ℕ) (t : Bool) → leb (cells_of h) cells ≡ t → ltb cells (cells_of h) ≡ not t
 enough h cells true e = le-ltb cells (cells_of h) (leb-true (cells_of h) cells e)
 enough h cells false e = lt-ltb cells (cells_of h) (leb-false (cells_of h) cells e)
-
--- block 0, by what its record A says
-module _ (s : Session) (cells : ℕ) (a : Checked) where
-  abbrev first_of : Checked → Judged
-  first_of x = judged_of s (beginning (room cells) x)
-
-  pub first-bad : (kind byte : ℕ) → a ≡ NoSheet kind byte → judged_of s (wrong kind 0 byte) ≡ first_of a
-  first-bad kind byte e = sym (ap first_of e)
-
-  module _ (h : Header) (e : a ≡ Sheet h) where
-    pub first_short : leb (cells_of h) cells ≡ false → judged_of s (wrong 12 0 0) ≡ first_of a
-    first_short t = sym (ap first_of e ∙ rw (enough h cells false t))
-
-    pub first_good : leb (cells_of h) cells ≡ true → judged_of s (begins h) ≡ first_of a
-    first_good t = sym (ap first_of e ∙ rw (enough h cells true t))
 
 by-answers : (s : Session) (number : ℕ) (block : List ℕ) (m : Room) (whole sound held ahead first complete roomy : Bool)
     → by_gate s number block m (gate_by whole sound held ahead first complete roomy)
@@ -93,18 +78,18 @@ record Past (whole sound held ahead first roomy : Bool) : Type 0 where
   first-is : first ≡ false
   roomy-is : roomy ≡ true
 
-stop-later : (kind : ℕ) → Stop kind ≡ Later → ⊥
+stop-later : (kind : Kind) → Stop kind ≡ Later → ⊥
 stop-later kind x = let y : ◌≡◌ {A = ℕ} 0 1 = cc in omega arith
 
 past : (whole sound held ahead first complete roomy : Bool) → gate_by whole sound held ahead first complete roomy ≡ Later
     → Past whole sound held ahead first roomy
-past false b c d e f g z = absurd (stop-later 1 z)
-past true false c d e f g z = absurd (stop-later 2 z)
+past false b c d e f g z = absurd (stop-later Length z)
+past true false c d e f g z = absurd (stop-later Unsound z)
 past true true true d e f g z = let x : Again ≡ Later = z in let y : ◌≡◌ {A = ℕ} 0 1 = cc in absurd (omega arith)
-past true true false true e f g z = absurd (stop-later 3 z)
+past true true false true e f g z = absurd (stop-later Early z)
 past true true false false true f g z = let x : Begin ≡ Later = z in let y : ◌≡◌ {A = ℕ} 0 1 = cc in absurd (omega arith)
-past true true false false false true g z = absurd (stop-later 4 z)
-past true true false false false false false z = absurd (stop-later 12 z)
+past true true false false false true g z = absurd (stop-later Complete z)
+past true true false false false false false z = absurd (stop-later Short z)
 past true true false false false false true z =
     record { whole_is = refl; sound-is = refl; held-is = refl; ahead-is = refl; first-is = refl; roomy-is = refl }
 

@@ -6,6 +6,7 @@ use Rattle.session.specs.Session.{sound, complete, begun}
 use Rattle.delivery.specs.Deliver.{Verdict, Room, again, wrong, begins, fills}
 use Rattle.delivery.specs.declared.Answer.{Answer}
 use Rattle.delivery.specs.declared.Answer.TheVariants.{Taken, Held, Refused}
+use Rattle.kinds.specs.declared.Kind.TheVariants.{Length, Unsound, Early, Complete, Room as Short}
 use Rattle.gate.specs.declared.verdict.Gate.{Gate}
 use Rattle.gate.specs.declared.verdict.Gate.TheVariants.{Stop, Again, Begin, Later}
 use Rattle.gate.specs.declared.verdict.Judged.{Judged}
@@ -17,9 +18,9 @@ room cells = record { cells = cells }
 -- the first tests, in their order: by their answers, and of a delivery
 abbrev pub gate_by : Bool → Bool → Bool → Bool → Bool → Bool → Bool → Gate
 gate_by whole sound held ahead first complete roomy =
-    cond (not whole) (Stop 1)
-    (cond (not sound) (Stop 2)
-    (cond held Again (cond ahead (Stop 3) (cond first Begin (cond complete (Stop 4) (cond (not roomy) (Stop 12) Later))))))
+    cond (not whole) (Stop Length)
+    (cond (not sound) (Stop Unsound)
+    (cond held Again (cond ahead (Stop Early) (cond first Begin (cond complete (Stop Complete) (cond (not roomy) (Stop Short) Later))))))
 
 abbrev pub gate_of : Session → ℕ → ℕ → Room → Gate
 gate_of s number bytes r =

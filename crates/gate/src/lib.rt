@@ -10,8 +10,8 @@ ghost use Rattle.delivery.specs.Deliver.{beginning};
 ghost use Rattle.gate.specs.Gate.{room, gate_by, gate_of, taken, judged_of};
 
 use frame::Header;
+use kinds::Kind;
 use session::Session;
-use sheet::Checked;
 use verdict::{Gate, Judged};
 
 // The tests behind length and soundness, in document 01's order. Whether the cells lent are enough for the session's sheet is asked by the
@@ -23,16 +23,16 @@ pub fn order(s: Session, number: u64, roomy: bool) -> Gate
         return Gate::Again;
     }
     if s.taken < number {
-        return Gate::Stop(3);
+        return Gate::Stop(Kind::Early);
     }
     if number == 0 {
         return Gate::Begin;
     }
     if session::is_complete(s) {
-        return Gate::Stop(4);
+        return Gate::Stop(Kind::Complete);
     }
     if !roomy {
-        return Gate::Stop(12);
+        return Gate::Stop(Kind::Room);
     }
     Gate::Later
 }
@@ -42,13 +42,12 @@ pub fn gate(s: Session, number: u64, bytes: usize, cells: usize) -> Gate
     ensures { result ≡ gate_of s number bytes (room cells) }
 {
     if bytes != 1024 {
-        return Gate::Stop(1);
+        return Gate::Stop(Kind::Length);
     }
     if !session::is_sound(s) {
-        return Gate::Stop(2);
+        return Gate::Stop(Kind::Unsound);
     }
-    let h = s.header;
-    let roomy = frame::has_room(h, cells as u64);
+    let roomy = frame::has_room(s.header, cells as u64);
     order(s, number, roomy)
 }
 
@@ -65,14 +64,9 @@ fn begin(family: u64, h: Header) -> Judged
 pub fn judge_first(s: Session, block: &[u8], cells: usize) -> Judged
     ensures { result ≡ judged_of s (beginning (room cells) (record_of s.family block.now)) }
 {
-    let checked = sheet::check_family(s.family, block);
-    match checked {
-        Checked::Refused(kind, byte) => verdict::refused(s, kind, 0, byte),
-        Checked::Sheet(h) => {
-            if frame::has_room(h, cells as u64) {
-                return begin(s.family, h);
-            }
-            verdict::refused(s, 12, 0, 0)
-        }
+    match sheet::check_family(s.family, block) {
+        Ok(h) if frame::has_room(h, cells as u64) => begin(s.family, h),
+        Ok(_) => verdict::refused(s, Kind::Room, 0, 0),
+        Err(b) => verdict::refused(s, b.kind, 0, b.byte),
     }
 }

@@ -2,14 +2,16 @@
 ghost use Rattle.std.specs.Prelude.{◌≡◌};
 ghost use Rattle.gate.specs.Gate.{judged_of, taken};
 ghost use Rattle.delivery.specs.Deliver.{again, wrong};
+ghost use Rattle.kinds.specs.Kinds.{number_of};
 
 use delivery::Answer;
+use kinds::Kind;
 use session::Session;
 
 // A refusal, a held block, block 0, or a later block.
 #[derive(Drop)]
 pub enum Gate {
-    Stop(u32),
+    Stop(Kind),
     Again,
     Begin,
     Later,
@@ -38,11 +40,11 @@ pub fn held(s: Session) -> Judged
     }
 }
 
-pub fn refused(s: Session, kind: u32, block: u64, byte: u32) -> Judged
-    ensures { result ≡ judged_of s (wrong kind block byte) }
+pub fn refused(s: Session, kind: Kind, block: u64, byte: u32) -> Judged
+    ensures { result ≡ judged_of s (wrong (number_of kind) block byte) }
 {
     Judged {
-        answer: Answer::Refused(kind, block, byte),
+        answer: Answer::Refused(kind.number(), block, byte),
         session: s,
         voids: 0,
         at: 0,

@@ -1,14 +1,26 @@
--- A header whose fields are all zero is the fresh one.
-use mathlib.Core.Bool.{true}
-use mathlib.Core.Path.{◌≡◌, sym, ap}
+-- A header whose fields are all zero is the fresh one, and equality with zero is the test for zero.
+use mathlib.Core.Bool.{Bool, true, false, ◌&&◌}
+use mathlib.Core.Path.{◌≡◌, refl, sym, ap}
 use borrow.Author.Tests.{eqb-true}
+use Rattle.std.proofs.Common.{int_eq, zero, suc, rules}
+use Rattle.std.proofs.Math.Dec.{eqb-suc-zero}
 use lib.IntN.{ℤ, pos, negsuc}
 use lib.Dec.{eqb}
-use Rattle.laws.specs.Sign.{is_zero}
+use Rattle.laws.specs.Sign.{is_zero, ◌and◌}
 use Rattle.laws.proofs.Tests.{clash, split}
 use Rattle.frame.specs.declared.Corner.{Corner}
 use Rattle.frame.specs.declared.Header.{Header}
 use Rattle.heading.specs.Heading.{fresh_corner, zero_corner, fresh_header, zero_header}
+
+-- tests joined by a derived `==`
+pub joined : (a b : Bool) → (a && b) ≡ (a and b)
+joined true b = refl
+joined false b = refl
+
+pub equals-zero : (z : ℤ) → int_eq z (pos 0) ≡ is_zero z
+equals-zero (pos zero) = refl
+equals-zero (pos (suc n)) = rw eqb-suc-zero (search rules)
+equals-zero (negsuc n) = refl
 
 pub is-zero : (z : ℤ) → is_zero z ≡ true → z ≡ pos 0
 is-zero (pos n) t = ap pos (eqb-true n 0 t)

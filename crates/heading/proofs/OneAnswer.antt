@@ -1,4 +1,5 @@
 -- No second answer: for each public function its contract, as it stands, leaves one result and one state of what was lent.
+use Rattle.field.proofs.OneTold.{limits-one}
 use Rattle.laws.proofs.Answers.{one_answer, OneResult}
 use Rattle.heading.proofs.family_limits.Reads as family-limits·told
 use Rattle.heading.proofs.family_obeys.Reads as family-obeys·told
@@ -8,7 +9,7 @@ use Rattle.heading.proofs.named_limits.Reads as named-limits·told
 use Rattle.heading.proofs.zero_header.Reads as zero-header·told
 
 pub named-limits : OneResult named-limits·told.Learnt
-named-limits κs a z z' e e' p q = one_answer p q
+named-limits κs a z z' e e' p q = limits-one z z' (one_answer p q)
 
 pub is-real-number : OneResult is-real-number·told.Learnt
 is-real-number κs a z z' e e' p q = one_answer p q
@@ -20,7 +21,7 @@ pub zero-header : OneResult zero-header·told.Learnt
 zero-header κs a z z' e e' p q = one_answer p q
 
 pub family-limits : OneResult family-limits·told.Learnt
-family-limits κs a z z' e e' p q = one_answer p q
+family-limits κs a z z' e e' p q = limits-one z z' (one_answer p q)
 
 pub family-obeys : OneResult family-obeys·told.Learnt
 family-obeys κs a z z' e e' p q = one_answer p q

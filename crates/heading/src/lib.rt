@@ -1,266 +1,194 @@
 #![tactic(auto)]
 // What a sheet's header must obey: record A's limits, each by its name. Document 01, "Record A".
-ghost use Rattle.std.specs.Prelude.{◌≡◌, ◌<◌, get_or};
-ghost use Rattle.heading.specs.Heading.{zone_limits, ground_limits, height_limits, limits_at, family_limits_at, is_real_number, corner_real, fields_obey, reals_obey, header_obeys, canadian_fields, family_obeys, zero_corner, zero_header};
-ghost use Rattle.heading.specs.Steps.{spacings_obey, fixed_limits, no_limits, stands_at, canadian_at, stands_here_at, counts_here};
+ghost use Rattle.std.specs.Prelude.{◌≡◌};
+ghost use Rattle.heading.specs.Heading.{zone_limits, ground_limits, height_limits, limits_of, canadian_limits, family_limits, is_real_number, corner_real, fields_obey, reals_obey, header_obeys, canadian_fields, family_obeys, zero_header};
+ghost use Rattle.field.specs.Field.{limits};
+ghost use Rattle.field.specs.Told.{limits_told};
+ghost use Rattle.heading.specs.Steps.{named, stands_by};
 
-use field::Limits;
-use figures::{all3, all4, both, is_zero};
+use field::Bounds;
 use frame::{Corner, Header};
+use kinds::Kind;
 
-// The names of record A's limits, in the order of the tables below.
-pub const LEVEL: usize = 0;
-
-pub const PATTERN: usize = 1;
-
-pub const SYSTEM: usize = 2;
-
-pub const ZONE: usize = 3;
-
-pub const GROUND: usize = 4;
-
-pub const VERTICAL: usize = 5;
-
-pub const SIDES: usize = 6;
-
-pub const ANGLE: usize = 7;
-
-pub const ACCURACY: usize = 8;
-
-pub const SPACING: usize = 9;
-
-pub const HEIGHT: usize = 10;
-
-pub const RANK: usize = 11;
-
-pub const PROFILES: usize = 12;
-
-pub const MINUTES: usize = 13;
-
-pub const SECONDS: usize = 14;
-
-const LEAST: [u64; 15] = [1, 1, 0, 0, 0, 1, 4, 0, 0, 1000000000, 0, 1, 1, 0, 0];
-
-const GREATEST: [u64; 15] = [
-    3,
-    1,
-    2,
-    0,
-    0,
-    2,
-    4,
-    0,
-    1,
-    9999000000000,
-    0,
-    1,
-    2048,
-    59,
-    59999999999,
-];
-
-const STEP: [u64; 15] = [1, 1, 1, 0, 0, 1, 1, 1, 1, 1000000000, 0, 1, 1, 1, 1];
-
-const KIND: [u32; 15] = [9, 9, 9, 0, 0, 9, 9, 9, 9, 7, 0, 9, 7, 7, 7];
-
-fn zone_limits(system: u64) -> Limits
-    ensures { result ≡ zone_limits system }
-{
-    if system == 0 {
-        return field::limits_of(0, 0, 1, 9);
-    }
-    if system == 1 {
-        return field::limits_of(1, 60, 1, 9);
-    }
-    field::limits_of(1, 9999, 1, 9)
+// The names of record A's limits.
+#[derive(Clone, Copy)]
+pub enum Name {
+    Level,
+    Pattern,
+    System,
+    Zone,
+    Ground,
+    Vertical,
+    Sides,
+    Angle,
+    Accuracy,
+    Spacing,
+    Height,
+    Rank,
+    Profiles,
+    Minutes,
+    Seconds,
 }
 
-fn ground_limits(system: u64) -> Limits
-    ensures { result ≡ ground_limits system }
+// Spacings, and seconds of arc, are in billionths.
+const BILLION: u64 = 1000000000;
+
+// A number that the paper lets stand in a field, by its least, greatest and step; else it is of kind 9, or of kind 7.
+fn values(least: u64, greatest: u64) -> Bounds
+    ensures { limits_told result ≡ limits least greatest 1 9 }
 {
-    if system == 0 {
-        return field::limits_of(3, 3, 1, 9);
-    }
-    if system == 1 {
-        return field::limits_of(2, 2, 1, 9);
-    }
-    field::limits_of(1, 2, 1, 9)
+    field::bounds_of(least, greatest, 1, Kind::Value)
 }
 
-fn height_limits(vertical: u64) -> Limits
-    ensures { result ≡ height_limits vertical }
+fn range(least: u64, greatest: u64, step: u64) -> Bounds
+    ensures { limits_told result ≡ limits least greatest step 7 }
+{
+    field::bounds_of(least, greatest, step, Kind::Range)
+}
+
+fn zone_limits(system: u64) -> Bounds
+    ensures { limits_told result ≡ zone_limits system }
+{
+    match system {
+        0 => values(0, 0),
+        1 => values(1, 60),
+        _ => values(1, 9999),
+    }
+}
+
+fn ground_limits(system: u64) -> Bounds
+    ensures { limits_told result ≡ ground_limits system }
+{
+    match system {
+        0 => values(3, 3),
+        1 => values(2, 2),
+        _ => values(1, 2),
+    }
+}
+
+fn height_limits(vertical: u64) -> Bounds
+    ensures { limits_told result ≡ height_limits vertical }
 {
     if vertical == 1 {
-        return field::limits_of(100000000, 1000000000, 100000000, 7);
-    }
-    field::limits_of(10000000, 1000000000, 10000000, 7)
-}
-
-// Limits that go by no other field.
-fn fixed_limits(name: usize) -> Limits
-    requires { name < 15 }
-    ensures { result ≡ get_or fixed_limits name no_limits }
-{
-    Limits {
-        least: LEAST[name],
-        greatest: GREATEST[name],
-        step: STEP[name],
-        kind: KIND[name],
+        range(BILLION / 10, BILLION, BILLION / 10)
+    } else {
+        range(BILLION / 100, BILLION, BILLION / 100)
     }
 }
 
-// The limits of a name, by the system and the vertical unit; a name that is none has limits that nothing keeps but 0.
-pub fn named_limits(name: usize, system: u64, vertical: u64) -> Limits
-    ensures { result ≡ limits_at name system vertical }
+// The limits of a name, by the system and the vertical unit.
+pub fn named_limits(name: Name, system: u64, vertical: u64) -> Bounds
+    ensures { limits_told result ≡ limits_of (named name) system vertical }
 {
-    if name == ZONE {
-        return zone_limits(system);
+    match name {
+        Name::Level => values(1, 3),
+        Name::Pattern => values(1, 1),
+        Name::System => values(0, 2),
+        Name::Zone => zone_limits(system),
+        Name::Ground => ground_limits(system),
+        Name::Vertical => values(1, 2),
+        Name::Sides => values(4, 4),
+        Name::Angle => values(0, 0),
+        Name::Accuracy => values(0, 1),
+        Name::Spacing => range(BILLION, 9999 * BILLION, BILLION),
+        Name::Height => height_limits(vertical),
+        Name::Rank => values(1, 1),
+        Name::Profiles => range(1, 2048, 1),
+        Name::Minutes => range(0, 59, 1),
+        Name::Seconds => range(0, 60 * BILLION - 1, 1),
     }
-    if name == GROUND {
-        return ground_limits(system);
-    }
-    if name == HEIGHT {
-        return height_limits(vertical);
-    }
-    if SECONDS < name {
-        return field::limits_of(0, 0, 0, 0);
-    }
-    fixed_limits(name)
 }
 
 // The limits of a name in a Canadian sheet: its own where request 2 narrows them, else those of any sheet.
-fn canadian_limits(name: usize, system: u64, vertical: u64) -> Limits
-    ensures { result ≡ canadian_at name system vertical }
+fn canadian_limits(name: Name, system: u64, vertical: u64) -> Bounds
+    ensures { limits_told result ≡ canadian_limits (named name) system vertical }
 {
-    if name == LEVEL {
-        return field::limits_of(1, 1, 1, 9);
+    match name {
+        Name::Level => values(1, 1),
+        Name::System => values(0, 0),
+        Name::Zone => values(0, 0),
+        Name::Vertical => values(2, 2),
+        Name::Accuracy => values(0, 0),
+        Name::Profiles => range(1201, 1201, 1),
+        _ => named_limits(name, system, vertical),
     }
-    if name == SYSTEM {
-        return field::limits_of(0, 0, 1, 9);
-    }
-    if name == ZONE {
-        return field::limits_of(0, 0, 1, 9);
-    }
-    if name == VERTICAL {
-        return field::limits_of(2, 2, 1, 9);
-    }
-    if name == ACCURACY {
-        return field::limits_of(0, 0, 1, 9);
-    }
-    if name == PROFILES {
-        return field::limits_of(1201, 1201, 1, 7);
-    }
-    named_limits(name, system, vertical)
 }
 
-pub fn family_limits(family: u64, name: usize, system: u64, vertical: u64) -> Limits
-    ensures { result ≡ family_limits_at family name system vertical }
+pub fn family_limits(family: u64, name: Name, system: u64, vertical: u64) -> Bounds
+    ensures { limits_told result ≡ family_limits family (named name) system vertical }
 {
     if family == 1 {
-        return canadian_limits(name, system, vertical);
+        canadian_limits(name, system, vertical)
+    } else {
+        named_limits(name, system, vertical)
     }
-    named_limits(name, system, vertical)
 }
 
-// A number of the header stands in the limits of its name.
-fn stands_in(name: usize, h: Header, v: u64) -> bool
-    ensures { result ≡ stands_at name h v }
+// A number of the header stands in the limits that its name has in a sheet of the family.
+fn stands_in(family: u64, name: Name, h: Header, v: u64) -> bool
+    ensures { result ≡ stands_by family name h v }
 {
-    field::in_range(named_limits(name, h.system, h.vertical), v)
-}
-
-fn spacings_obey(h: Header) -> bool
-    ensures { result ≡ spacings_obey h }
-{
-    let x = stands_in(SPACING, h, h.xstep);
-    let y = stands_in(SPACING, h, h.ystep);
-    let z = stands_in(HEIGHT, h, h.zstep);
-    all4(x, y, z, stands_in(PROFILES, h, h.profiles))
+    field::in_range(family_limits(family, name, h.system, h.vertical), v)
 }
 
 fn fields_obey(h: Header) -> bool
     ensures { result ≡ fields_obey h }
 {
-    let level = stands_in(LEVEL, h, h.level);
-    let system = stands_in(SYSTEM, h, h.system);
-    let zone = stands_in(ZONE, h, h.zone);
-    let ground = stands_in(GROUND, h, h.ground);
-    let vertical = stands_in(VERTICAL, h, h.vertical);
-    let accuracy = stands_in(ACCURACY, h, h.accuracy);
-    let rest = all4(ground, vertical, accuracy, spacings_obey(h));
-    all4(level, system, zone, rest)
+    stands_in(0, Name::Level, h, h.level)
+        && stands_in(0, Name::System, h, h.system)
+        && stands_in(0, Name::Zone, h, h.zone)
+        && stands_in(0, Name::Ground, h, h.ground)
+        && stands_in(0, Name::Vertical, h, h.vertical)
+        && stands_in(0, Name::Accuracy, h, h.accuracy)
+        && stands_in(0, Name::Spacing, h, h.xstep)
+        && stands_in(0, Name::Spacing, h, h.ystep)
+        && stands_in(0, Name::Height, h, h.zstep)
+        && stands_in(0, Name::Profiles, h, h.profiles)
 }
 
 // A delivery asks this of every real of its session, and nearly all of them end in three zeros: that is tested first.
 pub fn is_real_number(z: i64) -> bool
     ensures { result ≡ is_real_number z }
 {
-    let n = number::size_of(z);
-    if n >= 1000000000000000000 {
-        return false;
-    }
-    if n % 1000 == 0 {
-        return true;
-    }
-    numerals::is_short(15, n)
+    let n = z.unsigned_abs();
+    n < 1000000000000000000 && (n % 1000 == 0 || numerals::is_short(15, n))
 }
 
 fn corner_real(c: Corner) -> bool
     ensures { result ≡ corner_real c }
 {
-    both(is_real_number(c.x), is_real_number(c.y))
+    is_real_number(c.x) && is_real_number(c.y)
 }
 
 fn reals_obey(h: Header) -> bool
     ensures { result ≡ reals_obey h }
 {
-    let sw = h.sw;
-    let nw = h.nw;
-    let ne = h.ne;
-    let se = h.se;
-    let rest = all3(
-        corner_real(se),
-        is_real_number(h.least),
-        is_real_number(h.greatest),
-    );
-    all4(corner_real(sw), corner_real(nw), corner_real(ne), rest)
+    corner_real(h.sw)
+        && corner_real(h.nw)
+        && corner_real(h.ne)
+        && corner_real(h.se)
+        && is_real_number(h.least)
+        && is_real_number(h.greatest)
 }
 
 pub fn header_obeys(h: Header) -> bool
     ensures { result ≡ header_obeys h }
 {
-    let whole = frame::judge_whole(h);
-    all3(fields_obey(h), reals_obey(h), whole.kind == 0)
+    fields_obey(h) && reals_obey(h) && frame::judge_whole(h).is_ok()
 }
 
-fn stands_here(name: usize, h: Header, v: u64) -> bool
-    ensures { result ≡ stands_here_at name h v }
-{
-    field::in_range(canadian_limits(name, h.system, h.vertical), v)
-}
-
-fn counts_here(h: Header) -> bool
-    ensures { result ≡ counts_here h }
-{
-    let vertical = stands_here(VERTICAL, h, h.vertical);
-    let accuracy = stands_here(ACCURACY, h, h.accuracy);
-    let height = stands_here(HEIGHT, h, h.zstep);
-    all4(
-        vertical,
-        accuracy,
-        height,
-        stands_here(PROFILES, h, h.profiles),
-    )
-}
-
+// The x and y spacing of a Canadian sheet are held to the listed pairs by the rules over the whole record.
 fn canadian_fields(h: Header) -> bool
     ensures { result ≡ canadian_fields h }
 {
-    let level = stands_here(LEVEL, h, h.level);
-    let system = stands_here(SYSTEM, h, h.system);
-    let zone = stands_here(ZONE, h, h.zone);
-    let ground = stands_here(GROUND, h, h.ground);
-    all4(level, system, zone, both(ground, counts_here(h)))
+    stands_in(1, Name::Level, h, h.level)
+        && stands_in(1, Name::System, h, h.system)
+        && stands_in(1, Name::Zone, h, h.zone)
+        && stands_in(1, Name::Ground, h, h.ground)
+        && stands_in(1, Name::Vertical, h, h.vertical)
+        && stands_in(1, Name::Accuracy, h, h.accuracy)
+        && stands_in(1, Name::Height, h, h.zstep)
+        && stands_in(1, Name::Profiles, h, h.profiles)
 }
 
 // A header of either family.
@@ -268,33 +196,14 @@ pub fn family_obeys(family: u64, h: Header) -> bool
     ensures { result ≡ family_obeys family h }
 {
     if family == 1 {
-        let whole = frame::judge_family(1, h);
-        return all3(canadian_fields(h), reals_obey(h), whole.kind == 0);
+        canadian_fields(h) && reals_obey(h) && frame::judge_family(1, h).is_ok()
+    } else {
+        header_obeys(h)
     }
-    header_obeys(h)
-}
-
-fn zero_corner(c: Corner) -> bool
-    ensures { result ≡ zero_corner c }
-{
-    both(is_zero(c.x), is_zero(c.y))
 }
 
 pub fn zero_header(h: Header) -> bool
     ensures { result ≡ zero_header h }
 {
-    let sw = h.sw;
-    let nw = h.nw;
-    let ne = h.ne;
-    let se = h.se;
-    let spacings = all4(h.xstep == 0, h.ystep == 0, h.zstep == 0, h.profiles == 0);
-    let extremes = all4(
-        is_zero(h.least),
-        is_zero(h.greatest),
-        h.accuracy == 0,
-        spacings,
-    );
-    let corners = all4(zero_corner(nw), zero_corner(ne), zero_corner(se), extremes);
-    let units = all4(h.ground == 0, h.vertical == 0, zero_corner(sw), corners);
-    all4(h.level == 0, h.system == 0, h.zone == 0, units)
+    h == Header::default()
 }

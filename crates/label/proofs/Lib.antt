@@ -1,5 +1,5 @@
 pub mod Blocks
-pub mod Ends
 pub mod Origins
 pub mod Names
 pub mod OneAnswer
+pub mod Ends

@@ -54,6 +54,11 @@ module _ (block : List ℕ) where
   pub block-name : length block ≡ 1024 → EndsAt (take 40 block) (name_length block)
   block-name h = rw (← name_of block h) (name-is (take 40 block))
 
+  -- the one number that says where the name ends
+  pub name-ends : length block ≡ 1024 → (n : ℕ) → EndsAt (take 40 block) n → (n ≤ length block) × (n ≡ name_length block)
+  name-ends h n e =
+      (omega (arith, e.inside, length-take 40 block), one_end (take 40 block) n (name_length block) e (block-name h))
+
   pub name-elsewhere : (length block ≡ 1024 → ⊥) → take (name_length block) block ≡ []
   name-elsewhere h = rw (← no_name block h)
 

@@ -1,7 +1,7 @@
 -- What an origin's number says: k + 1 exactly where bytes 141 to 144 are the k-th code of the sheet's family, 0 exactly where they are none of them. A text's place in any list carries it, with one computed test a family: each code has its own place.
 use mathlib.Core.List.{List, [], ◌∷◌}
 use mathlib.Core.Path.{◌≡◌, refl, sym, ◌∙◌}
-use Prim.Native.Nat.{ℕ, ◌+◌, ◌≤◌, ◌<◌, suc}
+use Prim.Native.Nat.{ℕ, ◌+◌, ◌≤◌, ◌<◌, zero, suc}
 use lib.ListN.{length, get_or, get_or-map, take, drop}
 use mathlib.Core.Bool.{Bool, true, false, cond}
 use mathlib.Core.Logic.{◌⊎◌, inl, inr, ◌↔◌}
@@ -11,7 +11,7 @@ use native.Mathlib.Decide.{ℕ_discrete}
 use borrow.Author.Tests.{ltb-false, ne_eqb}
 use Rattle.laws.specs.Family.{known, is_canadian}
 use Rattle.laws.specs.Texts.{same}
-use Rattle.laws.proofs.Texts.{same-is}
+use Rattle.laws.proofs.Texts.{same-is, same-fails}
 use Rattle.laws.proofs.Tables.{entry}
 use Rattle.laws.proofs.Answers.{one_answer}
 use Rattle.label.specs.Label.{place_in, origins, canadian_origins, origins_of, origin_of, family_origin}
@@ -33,6 +33,20 @@ find n t (o ∷ os) = go (same t o) refl (find (suc n) t os)
     go false e (inl z) = inl (rw e z)
     go false e (inr f) =
         inr (record { i = suc f.i; inside = omega (arith, f.inside); place = rw e (omega (arith, f.place)); text = f.text })
+
+-- the place of the first text of a list that it is
+pub stands-at : (t : List ℕ) (os : List (List ℕ)) (n i : ℕ) → i < length os → t ≡ get_or os i [] → ((k : ℕ) → k < i → t ≡ get_or os k [] → ⊥)
+    → place_in n t os ≡ n + i
+stands-at t [] n i h e before = absurd (omega arith)
+stands-at t (o ∷ os) n zero h e before = rw ((same-is t o).1 e) (omega arith)
+stands-at t (o ∷ os) n (suc i) h e before =
+    rw ((same-fails t o).1 (before 0 (omega arith)))
+    (omega (arith, stands-at t os (suc n) i (omega arith) e (λ k l. before (suc k) (omega arith))))
+
+pub stands-nowhere : (t : List ℕ) (os : List (List ℕ)) (n : ℕ) → ((k : ℕ) → k < length os → t ≡ get_or os k [] → ⊥) → place_in n t os ≡ 0
+stands-nowhere t [] n none = refl
+stands-nowhere t (o ∷ os) n none =
+    rw ((same-fails t o).1 (none 0 (omega arith))) (stands-nowhere t os (suc n) (λ k l. none (suc k) (omega arith)))
 
 -- each text of a list has its own place
 abbrev Own : List (List ℕ) → Type 0

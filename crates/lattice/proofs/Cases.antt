@@ -1,19 +1,18 @@
 -- A lattice and a place on it, by what their tests decide.
+use Rattle.std.specs.Prelude.{None, Some}
 use mathlib.Core.Bool.{true, false, Bool, cond}
 use mathlib.Core.Path.{◌≡◌, refl, ap, sym, ◌∙◌}
 use Prim.Native.Nat.{◌<◌, ◌^◌, ℕ, ◌≤◌, ◌%◌}
-use borrow.Author.Tests.{ltb-true, lt-ltb, le-ltb, leb-true, le-leb, eqb-true, eq-eqb}
+use borrow.Author.Tests.{ltb-true, lt-ltb, leb-true, le-leb, eqb-true, eq-eqb}
 use lib.IntN.{ℤ, nat_abs, pos, negsuc, ◌-ℤ◌}
 use native.Mathlib.Omega.{arith}
-use lib.Signed.{lt_z}
 use mir.Facts.{to_z-of_z}
 use mir.Syntax.{w64}
 use mir.Val.{SFits, to_z, of_z}
 use lib.Dec.{ltb, leb, eqb}
 use Rattle.laws.specs.Sign.{◌and◌}
-use Rattle.laws.proofs.Tests.{clash, and_first, and_second}
+use Rattle.laws.proofs.Tests.{and_first, and_second}
 use Rattle.lattice.specs.Lattice.{is_real, place_within, first_multiple, last_multiple, many_from, empty_lattice, lattice_of, multiple_of, place_of}
-use Rattle.lattice.specs.declared.Place.TheVariants.{Off, On}
 use Rattle.lattice.specs.declared.Lattice.{Lattice}
 
 pub real-small : (z : ℤ) → is_real z ≡ true → nat_abs z < 10 ^ 18
@@ -26,31 +25,18 @@ small-real z = lt-ltb (nat_abs z) (10 ^ 18)
 pub real_read : {z : ℤ} {r : Bool} → SFits w64 z → r ≡ is_real (to_z w64 (of_z w64 z)) → r ≡ true → is_real z ≡ true
 real_read fits e t = sym (ap is_real (to_z-of_z fits)) ∙ sym e ∙ t
 
--- the place that a difference gives, by its sign
-pub within-minus : (z : ℤ) (count : ℕ) → lt_z z (pos 0) ≡ true → place_within z count ≡ Off
-within-minus (pos n) count t = absurd (omega (arith, ltb-true n 0 t))
-within-minus (negsuc n) count t = refl
-
-pub within-inside : (z : ℤ) (count : ℕ) → lt_z z (pos 0) ≡ false → nat_abs z < count → place_within z count ≡ On (nat_abs z)
-within-inside (pos n) count t h = rw (lt-ltb n count h)
-within-inside (negsuc n) count t h = clash t
-
-pub within-past : (z : ℤ) (count : ℕ) → lt_z z (pos 0) ≡ false → count ≤ nat_abs z → place_within z count ≡ Off
-within-past (pos n) count t h = rw (le-ltb n count h)
-within-past (negsuc n) count t h = clash t
-
-pub off-on : {i : ℕ} → Off ≡ On i → ⊥
+pub off-on : {i : ℕ} → None ≡ Some i → ⊥
 off-on e =
     let z : ◌≡◌ {A = ℕ} 0 1 = cc in
     omega arith
 
-pub within_on : (z : ℤ) (count i : ℕ) → place_within z count ≡ On i → (i < count) × (z ≡ pos i)
+pub within_on : (z : ℤ) (count i : ℕ) → place_within z count ≡ Some i → (i < count) × (z ≡ pos i)
 within_on (negsuc n) count i e = absurd (off-on e)
 within_on (pos n) count i e = go (ltb n count) refl
   where
     go : (t : Bool) → ltb n count ≡ t → (i < count) × (pos n ≡ pos i)
     go true h =
-        let k : On n ≡ On i = rw h at e in
+        let k : Some n ≡ Some i = rw h at e in
         let q : n ≡ i = cc in
         (omega (arith, ltb-true n count h), ap pos q)
     go false h = absurd (off-on (rw h at e))
@@ -79,7 +65,7 @@ module _ (l : Lattice) (s : ℕ) (z : ℤ) where
   abbrev pub has_place : Bool
   has_place = is_real z and is_real l.first and leb 1 s and eqb (nat_abs z % s) 0
 
-  pub place-cases : (t : Bool) → has_place ≡ t → place_of l s z ≡ cond t (place_within (multiple_of z s -ℤ l.first) l.count) Off
+  pub place-cases : (t : Bool) → has_place ≡ t → place_of l s z ≡ cond t (place_within (multiple_of z s -ℤ l.first) l.count) None
   unfolding place_of
   place-cases t e = rw e
 

@@ -1,9 +1,10 @@
 -- What the lattice means, in document 01's words: its ends, exactly the multiples between them, and places on it. The parts of Integers carry it.
+use Rattle.std.specs.Prelude.{Some}
 use Prim.Native.Nat.{ℕ, suc, ◌+◌, ◌*◌, ◌/◌, ◌≤◌, ◌<◌, ◌-◌, ◌%◌, zero-le}
 use native.Mathlib.Nat.{div-mul-le_self, le-div_iff_mul-le, suc-mul, mul-mod_left}
 use native.Mathlib.Omega.{arith}
 use lib.IntN.{ℤ, pos, negsuc, neg_ℤ, ◌*ℤ◌, ◌+ℤ◌, ◌-ℤ◌, nat_abs}
-use lib.Signed.{◌≤ℤ◌, le_z}
+use lib.Signed.{◌≤ℤ◌}
 use mathlib.Core.Path.{◌≡◌, refl, ◌∙◌, sym, ap, subst, subst⁻¹}
 use mathlib.Core.Bool.{true, Bool, false}
 use mathlib.Core.Logic.{◌↔◌}
@@ -12,8 +13,7 @@ use Rattle.laws.specs.Sign.{not_negative}
 use Rattle.laws.proofs.Integers.{above, below, le_parts, parts-le, minus-parts, multiple-parts, sum-parts, parts_same, le-through, multiple-le, sum_less, less-is, size-multiple, parts}
 use Rattle.lattice.specs.Lattice.{upward, first_multiple, last_multiple, many_from, is_real, lattice_of, multiple_of, place_of}
 use Rattle.lattice.specs.declared.Lattice.{Lattice}
-use Rattle.lattice.specs.declared.Place.TheVariants.{On}
-use Rattle.lattice.proofs.Multiples.{upward-reaches, upward-least, upward-zero, first-parts, last-parts, multiple-whole, whole_multiple, first-is, spacings-small}
+use Rattle.lattice.proofs.Multiples.{upward-reaches, upward-least, upward-zero, first-parts, last-parts, multiple-whole, whole_multiple, first-small}
 use Rattle.lattice.proofs.Cases.{spanned, lattice-cases, lattice-holds, off-on, within_on, has_place, place-cases, place-holds, place-known, real-small, small-real, has_lattice, lattice-known}
 
 -- the first multiple is the least one that is not below, the last the greatest that is not above
@@ -110,7 +110,7 @@ module _ (l : Lattice) (s : ℕ) (z : ℤ) where
   abbrev pub PlacedAt : ℕ → Type 0
   PlacedAt i = (i < l.count) × (z ≡ (l.first +ℤ pos i) *ℤ pos s)
 
-  pub place-on : (i : ℕ) → place_of l s z ≡ On i → PlacedAt i
+  pub place-on : (i : ℕ) → place_of l s z ≡ Some i → PlacedAt i
   place-on i e = go (has_place l s z) refl
     where
       go : (t : Bool) → has_place l s z ≡ t → PlacedAt i
@@ -122,7 +122,7 @@ module _ (l : Lattice) (s : ℕ) (z : ℤ) where
           (w.0, multiple-whole s known.0 z known.1 ∙ ap (λ k. k *ℤ pos s) (less-is m l.first (pos i) w.1))
 
   module _ (rz : is_real z ≡ true) (rf : is_real l.first ≡ true) (p : 1 ≤ s) where
-    pub on-place : (i : ℕ) → PlacedAt i → place_of l s z ≡ On i
+    pub on-place : (i : ℕ) → PlacedAt i → place_of l s z ≡ Some i
     on-place i o =
         let f = l.first in
         let k = f +ℤ pos i in
@@ -134,7 +134,7 @@ module _ (l : Lattice) (s : ℕ) (z : ℤ) where
         in
         place-cases l s z true (place-holds l s z rz rf p rest) ∙ rw (steps, lt-ltb i l.count o.0)
 
-    pub place_is : (i : ℕ) → (place_of l s z ≡ On i) ↔ PlacedAt i
+    pub place_is : (i : ℕ) → (place_of l s z ≡ Some i) ↔ PlacedAt i
     place_is i = (place-on i, on-place i)
 
 -- a lattice's first multiple lies no farther from zero than the least corner value, and so is a real
@@ -144,8 +144,7 @@ module _ (least greatest : ℤ) (s : ℕ) where
     where
       go : (t : Bool) → has_lattice least greatest s ≡ t → nat_abs (lattice_of least greatest s).first ≤ nat_abs least
       go true h =
-          rw (lattice-cases least greatest s true h, first-is least s)
-          (spacings-small s (lattice-known least greatest s h).1 least (le_z (pos 0) least))
+          rw (lattice-cases least greatest s true h) (first-small s (lattice-known least greatest s h).1 least)
       go false h = rw (lattice-cases least greatest s false h) zero-le
 
   pub first-real : is_real (lattice_of least greatest s).first ≡ true
@@ -170,10 +169,10 @@ module _ (least greatest : ℤ) (s : ℕ) (z : ℤ) where
         small-real z
         (omega (arith, parts least, parts greatest, parts z, real-small least rl, real-small greatest rg))
 
-    pub sheet-is : ((i : ℕ) × (place_of (lattice_of least greatest s) s z ≡ On i)) ↔ OnSheet
+    pub sheet-is : ((i : ℕ) × (place_of (lattice_of least greatest s) s z ≡ Some i)) ↔ OnSheet
     sheet-is = (to, from)
       where
-        to : (i : ℕ) × (place_of (lattice_of least greatest s) s z ≡ On i) → OnSheet
+        to : (i : ℕ) × (place_of (lattice_of least greatest s) s z ≡ Some i) → OnSheet
         to o =
             let l = lattice_of least greatest s in
             let q = place-on l s z o.0 o.1 in
@@ -181,7 +180,7 @@ module _ (least greatest : ℤ) (s : ℕ) (z : ℤ) where
             let b = (lattice-is least greatest s rl rg p k).1 (o.0, q.0, refl) in
             (k, q.1, subst⁻¹ (λ y. least ≤ℤ y) q.1 b.0, subst⁻¹ (λ y. y ≤ℤ greatest) q.1 b.1)
 
-        from : OnSheet → (i : ℕ) × (place_of (lattice_of least greatest s) s z ≡ On i)
+        from : OnSheet → (i : ℕ) × (place_of (lattice_of least greatest s) s z ≡ Some i)
         from o =
             let b =
             (lattice-is least greatest s rl rg p o.0).0

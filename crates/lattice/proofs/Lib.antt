@@ -1,3 +1,4 @@
+pub mod Kept
 pub mod Multiples
 pub mod Cases
 pub mod LatticeLaws

@@ -1,29 +1,16 @@
 -- Values in whole spacings: what rounding up and cutting give on each side of zero, and that nothing grows by it.
-use mathlib.Core.Path.{◌≡◌, refl, sym, ◌∙◌}
-use Prim.Native.Nat.{ℕ, zero-le, suc, ◌+◌, ◌-◌, ◌*◌, ◌/◌, ◌%◌, ◌≤◌, ◌<◌}
-use borrow.Author.Tests.{le-ltb, le-leb}
-use lib.IntN.{ℤ, pos, negsuc, nat_abs, ◌*ℤ◌}
-use lib.Signed.{le_z}
-use mathlib.Core.Bool.{false, Bool, true}
+use mathlib.Core.Path.{◌≡◌, refl, sym, ap, ◌∙◌}
+use Prim.Native.Nat.{ℕ, suc, ◌+◌, ◌-◌, ◌*◌, ◌/◌, ◌%◌, ◌≤◌, ◌<◌}
+use lib.IntN.{ℤ, pos, negsuc, neg_ℤ, nat_abs, ◌*ℤ◌}
 use native.Mathlib.Nat.{div-add-mod', div-le_self, div-lt_iff_lt-mul, div-mul-le_self, le-div_iff_mul-le, le-mul_of_pos_right, lt-div-mul-add, mul-div_cancel, suc-mul, zero-div}
+use lib.Signed.{lt_z}
+use mathlib.Core.Bool.{false}
 use native.Mathlib.Omega.{arith}
-use Rattle.laws.proofs.Integers.{above, below, parts_same, minus-parts, multiple-parts, signed-size}
-use Rattle.lattice.specs.Lattice.{first_multiple, last_multiple, multiple_of, upward, is_real}
-use Rattle.lattice.specs.Steps.{in_spacings, is_minus, rounded}
-use Rattle.lattice.proofs.Cases.{real-small, small-real}
-
--- "signs respected": the first is rounded away from zero above it, the last below it, and else the size is cut
-pub first-is : (v : ℤ) (s : ℕ) → first_multiple v s ≡ in_spacings v s (le_z (pos 0) v)
-first-is (pos v) s = rw (le-ltb v 0 zero-le, le-leb 0 v zero-le)
-first-is (negsuc v) s = refl
-
-pub last-is : (v : ℤ) (s : ℕ) → last_multiple v s ≡ in_spacings v s (is_minus v)
-last-is (pos v) s = rw (le-ltb v 0 zero-le)
-last-is (negsuc v) s = refl
-
-pub multiple-is : (v : ℤ) (s : ℕ) → multiple_of v s ≡ in_spacings v s false
-multiple-is (pos v) s = rw (le-ltb v 0 zero-le)
-multiple-is (negsuc v) s = refl
+use Rattle.laws.proofs.Integers.{above, below, parts_same, minus-parts, multiple-parts, size-minus}
+use Rattle.laws.proofs.Tests.{clash}
+use Rattle.std.proofs.lemmas.Grind.{div_ceil_times}
+use Rattle.std.specs.Int.{div_ceil}
+use Rattle.lattice.specs.Lattice.{first_multiple, last_multiple, multiple_of, upward}
 
 module _ (s : ℕ) (p : 0 < s) where
   -- rounded up: the least number of spacings that reaches v
@@ -42,18 +29,23 @@ module _ (s : ℕ) (p : 0 < s) where
   pub upward-zero : upward 0 s ≡ 0
   upward-zero = omega (arith, upward-small 0)
 
-  pub upward-even : (v : ℕ) → v % s ≡ 0 → upward v s ≡ v / s
+  upward-even : (v : ℕ) → v % s ≡ 0 → upward v s ≡ v / s
   upward-even v e =
       let le : upward v s ≤ v / s = upward-least v (v / s) (omega (arith, div-add-mod' v s)) in
       let ge : v / s ≤ upward v s = (le-div_iff_mul-le p).1 (omega (arith, div-mul-le_self v s)) in
       omega arith
 
-  pub upward-odd : (v : ℕ) → (v % s ≡ 0 → ⊥) → upward v s ≡ v / s + 1
-  upward-odd v e =
-      let next = suc-mul (v / s) s in
-      let le : upward v s ≤ suc (v / s) = upward-least v (suc (v / s)) (omega (arith, next, lt-div-mul-add {a = v} p)) in
-      let ge : suc (v / s) ≤ upward v s = (le-div_iff_mul-le p).1 (omega (arith, next, div-add-mod' v s, e)) in
+  -- as the machine rounds up
+  upward-is : (v : ℕ) → div_ceil v s ≡ upward v s
+  upward-is v =
+      let b = div_ceil_times v s p in
+      let le : upward v s ≤ div_ceil v s = upward-least v (div_ceil v s) b.0 in
+      let ge : div_ceil v s ≤ upward v s = (le-div_iff_mul-le p).1 (omega (arith, b.1)) in
       omega arith
+
+  pub first-above : (v : ℤ) → lt_z v (pos 0) ≡ false → pos (div_ceil (nat_abs v) s) ≡ first_multiple v s
+  first-above (pos v) t = ap pos (upward-is v)
+  first-above (negsuc v) t = clash t
 
   -- on one side of zero a multiple is rounded up, on the other cut
   pub first-parts : (v : ℤ) → (above (first_multiple v s) ≡ upward (above v) s) × (below (first_multiple v s) ≡ below v / s)
@@ -91,13 +83,21 @@ module _ (s : ℕ) (p : 0 < s) where
       (rw ((cut_parts z).0, (cut_parts z).1, (multiple-parts k s).0, (multiple-parts k s).1)
       (omega (arith, mul-div_cancel (above k) p, mul-div_cancel (below k) p)))
 
-  -- rounding takes no value farther from zero
-  pub rounded-small : (n : ℕ) (up : Bool) → rounded n s up ≤ n
-  rounded-small n true = upward-small n
-  rounded-small n false = div-le_self n s
+  -- the first of the values with their signs turned is the last
+  pub last-is : (v : ℤ) → neg_ℤ (first_multiple (neg_ℤ v) s) ≡ last_multiple v s
+  last-is v =
+      let f = first_multiple (neg_ℤ v) s in
+      let m = minus-parts v in
+      let n = minus-parts f in
+      parts_same (neg_ℤ f) (last_multiple v s)
+      (rw (n.0, n.1, (first-parts (neg_ℤ v)).0, (first-parts (neg_ℤ v)).1, (last-parts v).0, (last-parts v).1, m.0, m.1) refl)
 
-  pub spacings-small : (v : ℤ) (away : Bool) → nat_abs (in_spacings v s away) ≤ nat_abs v
-  spacings-small v away = rw (signed-size (is_minus v) (rounded (nat_abs v) s away)) (rounded-small (nat_abs v) away)
+  -- a whole multiple is the first that is not below it
+  pub first-whole : (z : ℤ) → nat_abs z % s ≡ 0 → first_multiple z s ≡ multiple_of z s
+  first-whole (pos v) e = ap pos (upward-even v e)
+  first-whole (negsuc v) e = refl
 
-  pub spacings-real : (v : ℤ) (away : Bool) → is_real v ≡ true → is_real (in_spacings v s away) ≡ true
-  spacings-real v away r = small-real (in_spacings v s away) (omega (arith, spacings-small v away, real-small v r))
+  -- the first lies no farther from zero than the value
+  pub first-small : (v : ℤ) → nat_abs (first_multiple v s) ≤ nat_abs v
+  first-small (pos v) = upward-small v
+  first-small (negsuc v) = rw (size-minus (pos (suc v / s))) (div-le_self (suc v) s)

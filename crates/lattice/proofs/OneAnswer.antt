@@ -2,7 +2,6 @@
 use Rattle.laws.proofs.Answers.{one_answer, OneResult}
 use Rattle.lattice.proofs.leaves_room.Reads as leaves-room·told
 use Rattle.lattice.proofs.locate.Reads as locate·told
-use Rattle.lattice.proofs.place_number.Reads as place-number·told
 use Rattle.lattice.proofs.span.Reads as span·told
 
 pub span : OneResult span·told.Learnt
@@ -13,6 +12,3 @@ locate κs a z z' e e' p q = one_answer p q
 
 pub leaves-room : OneResult leaves-room·told.Learnt
 leaves-room κs a z z' e e' p q = one_answer p q
-
-pub place-number : OneResult place-number·told.Learnt
-place-number κs a z z' e e' p q = one_answer p q

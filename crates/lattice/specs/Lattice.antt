@@ -1,9 +1,8 @@
 -- Document 01, "Record A", the lattice: places are whole numbers of billionths, a multiple is named by how many spacings it is.
+use Rattle.std.specs.Prelude.{None, Option, Some}
 use Rattle.std.specs.Prelude.{ℕ, ◌+◌, ◌-◌, ◌/◌, suc, ◌^◌, ◌%◌, ℤ, pos, negsuc, neg_ℤ, ◌+ℤ◌, ◌-ℤ◌, nat_abs, Bool, cond, ltb, leb, eqb}
 use Rattle.laws.specs.Sign.{not_negative, ◌and◌}
 use Rattle.lattice.specs.declared.Lattice.{Lattice}
-use Rattle.lattice.specs.declared.Place.{Place}
-use Rattle.lattice.specs.declared.Place.TheVariants.{On, Off}
 
 -- v / s rounded up
 abbrev pub upward : ℕ → ℕ → ℕ
@@ -41,17 +40,17 @@ abbrev pub multiple_of : ℤ → ℕ → ℤ
 multiple_of (pos v) s = pos (v / s)
 multiple_of (negsuc v) s = neg_ℤ (pos (suc v / s))
 
-abbrev pub place_within : ℤ → ℕ → Place
-place_within (pos i) count = cond (ltb i count) (On i) Off
-place_within (negsuc i) count = Off
+abbrev pub place_within : ℤ → ℕ → Option ℕ
+place_within (pos i) count = cond (ltb i count) (Some i) None
+place_within (negsuc i) count = None
 
 -- where a place stands on the lattice, counted from its first multiple; off it where it is no multiple, or one outside
-unfoldable pub place_of : Lattice → ℕ → ℤ → Place
+unfoldable pub place_of : Lattice → ℕ → ℤ → Option ℕ
 place_of l spacing z =
     cond (is_real z and is_real l.first and leb 1 spacing and eqb (nat_abs z % spacing) 0)
     (place_within (multiple_of z spacing -ℤ l.first) l.count)
-    Off
+    None
 
-abbrev pub place_number : Place → ℕ
-place_number (On i) = i
-place_number Off = 0
+abbrev pub place_number : Option ℕ → ℕ
+place_number (Some i) = i
+place_number None = 0

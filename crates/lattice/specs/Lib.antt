@@ -1,2 +1,1 @@
 pub mod Lattice
-pub mod Steps

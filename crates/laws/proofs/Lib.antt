@@ -14,3 +14,4 @@ pub mod Lists
 pub mod Told
 pub mod Starts
 pub mod Families
+pub mod Everys

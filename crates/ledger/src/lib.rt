@@ -14,6 +14,8 @@ ghost use Rattle.ledger.specs.Row.{row_kept};
 ghost use Rattle.ledger.specs.Steps.{Keepable};
 
 use delivery::{Answer, Delivered};
+use frame::Header;
+use kinds::Kind;
 use session::Session;
 
 // The numbers of a session; include/desk.h names them DEM_SESSION.
@@ -24,10 +26,10 @@ pub fn session_of(numbers: &[i64]) -> Session
     ensures { (result ≡ session_said numbers.now) × Idle result }
 {
     if reading::is_session(numbers) {
-        return reading::session_kept(numbers);
+        reading::session_kept(numbers)
+    } else {
+        session::begun(0, Header::default())
     }
-    let none = session::new();
-    session::begun(0, none.header)
 }
 
 // A fresh session for sheets of a family, whatever its number: 0, or 12 and nothing changed where there are too few numbers.
@@ -35,9 +37,9 @@ pub fn open(family: u32, numbers: &mut [i64]) -> u32
     ensures { (result ≡ open_kind numbers.old) × (numbers.new ≡ opened_with (opened family) numbers.old) }
 {
     if numbers.len() < NUMBERS {
-        return 12;
+        return Kind::Room.number();
     }
-    row::keep(session::opened(family as u64), numbers);
+    row::keep(session::opened(u64::from(family)), numbers);
     0
 }
 
@@ -45,10 +47,9 @@ pub fn open(family: u32, numbers: &mut [i64]) -> u32
 pub fn keep(s: Session, numbers: &mut [i64])
     ensures { numbers.new ≡ row_kept s numbers.old }
 {
-    if numbers.len() < NUMBERS {
-        return;
+    if NUMBERS <= numbers.len() {
+        row::keep(s, numbers);
     }
-    row::keep(s, numbers);
 }
 
 // What a delivery came to, told: the numbers are changed only where the block was taken.
@@ -56,8 +57,7 @@ fn settle(d: Delivered, numbers: &mut [i64], answer: &mut [u64]) -> u32
     requires { Keepable d numbers.old }
     ensures { (result ≡ answer_kind d.answer) × ((numbers.new ≡ numbers_after_answer d.answer d.session numbers.old) × (answer.new ≡ handed (answer_place d.answer) answer.old)) }
 {
-    let told = d.answer;
-    match told {
+    match d.answer {
         Answer::Taken => {
             row::keep(d.session, numbers);
             slip::hand(&[0, 0], answer);
@@ -68,7 +68,7 @@ fn settle(d: Delivered, numbers: &mut [i64], answer: &mut [u64]) -> u32
             255
         }
         Answer::Refused(kind, block, byte) => {
-            slip::hand(&[block, byte as u64], answer);
+            slip::hand(&[block, u64::from(byte)], answer);
             kind
         }
     }
@@ -92,8 +92,7 @@ pub fn deliver(
 pub fn is_sound(numbers: &[i64]) -> bool
     ensures { result ≡ sound_said numbers.now }
 {
-    let s = session_of(numbers);
-    session::is_sound(s)
+    session::is_sound(session_of(numbers))
 }
 
 // A sound session whose sheet is complete.
@@ -101,7 +100,7 @@ pub fn is_complete(numbers: &[i64]) -> bool
     ensures { result ≡ complete_said numbers.now }
 {
     let s = session_of(numbers);
-    figures::both(session::is_sound(s), session::is_complete(s))
+    session::is_sound(s) && session::is_complete(s)
 }
 
 // The lister's four lines of a complete session; 0, and nothing changed, for any other or where they do not fit.
@@ -109,8 +108,8 @@ pub fn report(numbers: &[i64], out: &mut [u8]) -> usize
     ensures { Given (report_said numbers.now) out.old out.new result }
 {
     if is_complete(numbers) {
-        let s = session_of(numbers);
-        return lines::put_report(s, out);
+        lines::put_report(session_of(numbers), out)
+    } else {
+        0
     }
-    0
 }

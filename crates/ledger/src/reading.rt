@@ -9,26 +9,23 @@ use session::{Profile, Session};
 fn number_at(numbers: &[i64], i: usize) -> i64
     ensures { result ≡ kept_at numbers.now i }
 {
-    if i < numbers.len() {
-        return numbers[i];
-    }
-    0
+    numbers.get(i).copied().unwrap_or(0)
 }
 
 // A count: what no count says is read as 0.
 fn count_at(numbers: &[i64], i: usize) -> u64
     ensures { (result ≡ count_kept numbers.now i) × (result < 2 ^ 63) }
 {
-    let z = number_at(numbers, i);
-    figures::not_negative(z)
+    number_at(numbers, i).max(0).unsigned_abs()
 }
 
 fn corner_at(numbers: &[i64], i: usize, j: usize) -> Corner
     ensures { result ≡ corner_kept numbers.now i j }
 {
-    let x = number_at(numbers, i);
-    let y = number_at(numbers, j);
-    Corner { x, y }
+    Corner {
+        x: number_at(numbers, i),
+        y: number_at(numbers, j),
+    }
 }
 
 fn header_kept(numbers: &[i64]) -> Header
@@ -73,10 +70,8 @@ fn profile_kept(numbers: &[i64]) -> Profile
 pub(crate) fn session_kept(numbers: &[i64]) -> Session
     ensures { (result ≡ session_kept numbers.now) × Idle result }
 {
-    let header = header_kept(numbers);
-    let profile = profile_kept(numbers);
     Session {
-        header,
+        header: header_kept(numbers),
         taken: count_at(numbers, 20),
         closed: count_at(numbers, 21),
         posts: count_at(numbers, 22),
@@ -85,7 +80,7 @@ pub(crate) fn session_kept(numbers: &[i64]) -> Session
         high: number_at(numbers, 25),
         column: count_at(numbers, 26),
         finished: count_at(numbers, 27),
-        profile,
+        profile: profile_kept(numbers),
         sum: number_at(numbers, 37),
         family: count_at(numbers, 38),
     }
@@ -94,31 +89,18 @@ pub(crate) fn session_kept(numbers: &[i64]) -> Session
 fn none_negative(numbers: &[i64]) -> bool
     ensures { result ≡ none_negative numbers.now }
 {
-    let mut i = 0;
-    while i < numbers.len() {
-        let z = numbers[i];
-        if z < 0 {
-            return false;
-        }
-        i += 1;
-    }
-    true
+    numbers.iter().all(|&z| 0 <= z)
 }
 
 // Enough numbers, and no negative one where the session keeps a count.
+#[tactic(auto, unfolding(crate::specs::Ledger::is_session))]
 pub(crate) fn is_session(numbers: &[i64]) -> bool
     ensures { result ≡ is_session numbers.now }
 {
-    if numbers.len() < crate::NUMBERS {
-        return false;
-    }
-    figures::all4(
-        none_negative(&numbers[0..5]),
-        none_negative(&numbers[15..24]),
-        none_negative(&numbers[26..30]),
-        figures::both(
-            none_negative(&numbers[33..35]),
-            none_negative(&numbers[38..39]),
-        ),
-    )
+    crate::NUMBERS <= numbers.len()
+        && none_negative(&numbers[0..5])
+        && none_negative(&numbers[15..24])
+        && none_negative(&numbers[26..30])
+        && none_negative(&numbers[33..35])
+        && none_negative(&numbers[38..39])
 }

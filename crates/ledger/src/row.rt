@@ -7,16 +7,11 @@ ghost use Rattle.ledger.specs.Row.{with_sign, header_row, count_row, profile_row
 use frame::Header;
 use session::{Profile, Session};
 
-// The greatest number of 64 bits with a sign.
-const GREATEST: u64 = 9223372036854775807;
-
+// The greatest number of 64 bits with a sign for a greater one.
 fn signed(n: u64) -> i64
     ensures { result ≡ with_sign n }
 {
-    if n < GREATEST {
-        return n as i64;
-    }
-    9223372036854775807
+    i64::try_from(n).unwrap_or(i64::MAX)
 }
 
 // A row from one number on.
@@ -24,38 +19,28 @@ fn put_row(row: &[i64], at: usize, numbers: &mut [i64])
     requires { at + length row.now ≤ length numbers.old }
     ensures { numbers.new ≡ sets numbers.old at row.now }
 {
-    let mut i = 0;
-    while i < row.len() {
-        let z = row[i];
-        numbers[at + i] = z;
-        i += 1;
-    }
+    numbers[at..at + row.len()].copy_from_slice(row);
 }
 
 fn put_header(h: Header, numbers: &mut [i64])
     requires { session_numbers ≤ length numbers.old }
     ensures { numbers.new ≡ sets numbers.old 0 (header_row h) }
 {
-    let sw = h.sw;
-    let nw = h.nw;
-    let ne = h.ne;
-    let se = h.se;
-    let least = h.least;
     let row = [
         signed(h.level),
         signed(h.system),
         signed(h.zone),
         signed(h.ground),
         signed(h.vertical),
-        sw.x,
-        sw.y,
-        nw.x,
-        nw.y,
-        ne.x,
-        ne.y,
-        se.x,
-        se.y,
-        least,
+        h.sw.x,
+        h.sw.y,
+        h.nw.x,
+        h.nw.y,
+        h.ne.x,
+        h.ne.y,
+        h.se.x,
+        h.se.y,
+        h.least,
         h.greatest,
         signed(h.accuracy),
         signed(h.xstep),
@@ -70,13 +55,12 @@ fn put_counts(s: Session, numbers: &mut [i64])
     requires { session_numbers ≤ length numbers.old }
     ensures { numbers.new ≡ sets numbers.old 20 (count_row s) }
 {
-    let low = s.low;
     let row = [
         signed(s.taken),
         signed(s.closed),
         signed(s.posts),
         signed(s.filled),
-        low,
+        s.low,
         s.high,
         signed(s.column),
         signed(s.finished),
@@ -88,11 +72,10 @@ fn put_profile(p: Profile, numbers: &mut [i64])
     requires { session_numbers ≤ length numbers.old }
     ensures { numbers.new ≡ sets numbers.old 28 (profile_row p) }
 {
-    let datum = p.datum;
     let row = [
         signed(p.posts),
         signed(p.row),
-        datum,
+        p.datum,
         p.least,
         p.greatest,
         signed(p.read),
@@ -108,8 +91,7 @@ fn put_added(s: Session, numbers: &mut [i64])
     requires { session_numbers ≤ length numbers.old }
     ensures { numbers.new ≡ sets numbers.old 37 (added_row s) }
 {
-    let sum = s.sum;
-    let row = [sum, signed(s.family)];
+    let row = [s.sum, signed(s.family)];
     put_row(&row, 37, numbers);
 }
 

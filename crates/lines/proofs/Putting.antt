@@ -3,14 +3,13 @@ use mathlib.Core.List.{List, ◌++◌}
 use Prim.Native.Nat.{ℕ, ◌+◌, ◌≤◌}
 use native.Mathlib.Omega.{arith}
 use lib.ListN.{length, drop}
-use mathlib.Core.Bool.{cond, Bool, true, false}
-use mathlib.Core.Path.{◌≡◌, ◌∙◌, ap, subst, refl}
+use mathlib.Core.Bool.{cond}
+use mathlib.Core.Path.{◌≡◌, ◌∙◌, ap, subst}
 use lib.Dec.{leb}
-use borrow.Author.Tests.{leb-true}
 use Rattle.numerals.specs.Pieces.{GivenAt}
 use Rattle.numerals.proofs.Pieces.{joined, puts}
 use Rattle.lines.specs.Pieces.{Within}
-use Rattle.lines.specs.Lines.{Given, used}
+use Rattle.lines.specs.Lines.{Given}
 
 -- ---- pieces of a bounded length
 
@@ -47,14 +46,3 @@ given-front {text} {out} g =
 -- what is given of a text, said of the pieces it was built from
 pub given-of : (out : List ℕ) {text named after : List ℕ} {r : ℕ} → text ≡ named → Given text out after r → Given named out after r
 given-of out {text} {named} {after} {r} e h = subst (λ (t : List ℕ). Given t out after r) e h
-
--- no more bytes are used than are lent
-pub used-fits : (text lent : List ℕ) → used text lent ≤ length lent
-used-fits text lent = go (leb (length text) (length lent)) refl
-  where
-    go : (b : Bool) → leb (length text) (length lent) ≡ b → used text lent ≤ length lent
-    go true e = rw e (leb-true (length text) (length lent) e)
-    go false e = rw e (omega arith)
-
-pub given-fits : (text lent : List ℕ) {after : List ℕ} {r : ℕ} → Given text lent after r → length after ≡ length lent → r ≤ length after
-given-fits text lent g k = omega (arith, g.0, used-fits text lent, k)

@@ -4,23 +4,18 @@ ghost use Rattle.numerals.specs.Numerals.{numeral};
 ghost use Rattle.lines.specs.Lines.{units, hundredths, spacing};
 ghost use Rattle.lines.specs.Pieces.{Within};
 
-pub(crate) const FEED: u8 = 10;
-
-const BLANK: u8 = 32;
-
-const POINT: u8 = 46;
-
 // A unit and a hundredth in billionths.
-const UNIT: u64 = 1000000000;
+const UNIT: u64 = 1_000_000_000;
 
-pub(crate) const HUNDREDTH: u64 = 10000000;
+pub(crate) const HUNDREDTH: u64 = 10_000_000;
 
+// Kept: a text and a place in it stand apart here, as in the functions of numerals that these call.
 fn put_hundredths(text: &mut [u8], at: usize, n: u64) -> usize
     requires { at + 23 ≤ length text.old }
     ensures { Within 23 text.old at (units n) text.new result }
 {
     let point = numerals::put_number(text, at, n / 100);
-    let tenths = numerals::put_byte(text, point, POINT);
+    let tenths = numerals::put_byte(text, point, b'.');
     numerals::put_digits(text, tenths, 2, n % 100)
 }
 
@@ -33,22 +28,13 @@ pub(crate) fn put_number(text: &mut [u8], at: usize, word: &[u8], n: u64) -> usi
     numerals::put_number(text, first, n)
 }
 
-// A blank and a whole number.
-pub(crate) fn put_next(text: &mut [u8], at: usize, n: u64) -> usize
-    requires { at + 36 ≤ length text.old }
-    ensures { Within 36 text.old at (32 ∷ numeral n) text.new result }
-{
-    let first = numerals::put_byte(text, at, BLANK);
-    numerals::put_number(text, first, n)
-}
-
 // The last number of a line, after its word, and the line feed.
 pub(crate) fn put_last(text: &mut [u8], at: usize, word: &[u8], n: u64) -> usize
     requires { (at + 72 ≤ length text.old) × (length word.now ≤ 12) }
     ensures { Within 72 text.old at ((word.now ++ numeral n) ++ (10 ∷ [])) text.new result }
 {
     let end = put_number(text, at, word, n);
-    numerals::put_byte(text, end, FEED)
+    numerals::put_byte(text, end, b'\n')
 }
 
 // A blank and hundredths as units with two decimals.
@@ -56,7 +42,7 @@ pub(crate) fn put_units(text: &mut [u8], at: usize, n: u64) -> usize
     requires { at + 36 ≤ length text.old }
     ensures { Within 36 text.old at (32 ∷ units n) text.new result }
 {
-    let first = numerals::put_byte(text, at, BLANK);
+    let first = numerals::put_byte(text, at, b' ');
     put_hundredths(text, first, n)
 }
 
@@ -66,9 +52,10 @@ fn put_step(text: &mut [u8], at: usize, b: u64) -> usize
     ensures { Within 23 text.old at (spacing b) text.new result }
 {
     if b % UNIT == 0 {
-        return numerals::put_number(text, at, b / UNIT);
+        numerals::put_number(text, at, b / UNIT)
+    } else {
+        put_hundredths(text, at, b / HUNDREDTH)
     }
-    put_hundredths(text, at, b / HUNDREDTH)
 }
 
 // A blank and a spacing.
@@ -76,7 +63,7 @@ pub(crate) fn put_spacing(text: &mut [u8], at: usize, b: u64) -> usize
     requires { at + 36 ≤ length text.old }
     ensures { Within 36 text.old at (32 ∷ spacing b) text.new result }
 {
-    let first = numerals::put_byte(text, at, BLANK);
+    let first = numerals::put_byte(text, at, b' ');
     put_step(text, first, b)
 }
 
@@ -87,5 +74,5 @@ pub(crate) fn put_height(text: &mut [u8], at: usize, word: &[u8], z: i64) -> usi
 {
     let sign = numerals::put_word(text, at, word);
     let first = numerals::put_minus(text, sign, z);
-    put_hundredths(text, first, number::size_of(z))
+    put_hundredths(text, first, z.unsigned_abs())
 }

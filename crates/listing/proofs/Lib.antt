@@ -1,3 +1,3 @@
-pub mod Taking
 pub mod Loops
+pub mod Fed
 pub mod OneAnswer

@@ -3,12 +3,13 @@
 use mathlib.Core.Bool.{Bool, true, false, cond}
 use mathlib.Core.List.{List}
 use mathlib.Core.Path.{◌≡◌, refl, sym, ◌∙◌, ap, subst}
-use Prim.Native.Nat.{ℕ, zero, suc, ◌+◌, ◌-◌, ◌*◌, ◌<◌, ◌≤◌, ◌%◌}
+use Prim.Native.Nat.{ℕ, zero, suc, ◌+◌, ◌-◌, ◌*◌, ◌<◌, ◌≤◌, ◌%◌, min}
 use native.Mathlib.Omega.{arith}
-use borrow.Author.Tests.{eq-eqb, ne_eqb, eqb-true, ltb-true, ltb-false}
+use borrow.Author.Tests.{ne_eqb, ltb-true, ltb-false}
 use lib.Dec.{eqb, ltb}
 use lib.IntN.{ℤ}
-use lib.ListN.{length, length-take, length-drop}
+use lib.ListN.{length, take, length-take, length-drop}
+use Rattle.std.proofs.lemmas.List.{take_min}
 use Rattle.laws.proofs.Tests.{clash, by-test, either}
 use Rattle.ground.specs.Blocks.{block_at, blocks_in}
 use Rattle.session.specs.declared.Session.{Session}
@@ -22,12 +23,14 @@ use Rattle.runs.specs.Run.{Running, is_refused, with_block, run_to}
 use Rattle.runs.proofs.Passed.{shown}
 use Rattle.runs.proofs.RunLaws.{run_none}
 use Rattle.runs.proofs.Ends.{stays, steps, block-long, whole_run}
+use Rattle.listing.specs.declared.Stage.{Stage}
+use Rattle.listing.specs.declared.Stage.TheVariants.{More, Ended, Refused as Stopped}
 use Rattle.listing.specs.declared.Turn.{Turn}
-use Rattle.listing.specs.Turns.{turn, turn_after, step_of, cells_left, Stand, stepped, stand_after, ran, whole_blocks, left_over, with_rest, taken_of, Fetched, Reached, first, next, Listed}
+use Rattle.listing.specs.Turns.{turn, is_more, turn_after, step_of, cells_left, Stand, stepped, stand_after, ran, whole_blocks, left_over, with_rest, taken_of, ComesTo, Fetched, Reached, first, next, Listed}
 
 -- more may follow: so many turns, so many blocks taken, and that is the next block's number
 pub record Going (n turns : ℕ) (t : Turn) : Type 0 where
-  pub plain : t ≡ turn t.session 0 0 0 0
+  pub plain : t ≡ turn t.session More
   pub sound-is : sound t.session ≡ true
   pub turns-are : turns ≡ n
   pub taken_is : t.session.taken ≡ n
@@ -36,11 +39,17 @@ pub record Going (n turns : ℕ) (t : Turn) : Type 0 where
 pub record Stands (grid : List ℤ) (n : ℕ) (x : Stand) : Type 0 where
   pub turns : ℕ
   pub reached : Reached grid turns x.turn x.cells
-  pub going : x.turn.stage ≡ 0 → Going n turns x.turn
+  pub going : x.turn.stage ≡ More → Going n turns x.turn
 
 -- where no more may follow, how many were taken does not matter
-over : {grid : List ℤ} {n : ℕ} {x : Stand} (m : ℕ) → (x.turn.stage ≡ 0 → ⊥) → Stands grid n x → Stands grid m x
+over : {grid : List ℤ} {n : ℕ} {x : Stand} (m : ℕ) → (x.turn.stage ≡ More → ⊥) → Stands grid n x → Stands grid m x
 over m ne k = record { turns = k.turns; reached = k.reached; going = λ z. absurd (ne z) }
+
+-- more follows at that one stage only
+more-is : (stage : Stage) → is_more stage ≡ true → stage ≡ More
+more-is More e = refl
+more-is Ended e = clash (sym e)
+more-is (Stopped kind block byte) e = clash (sym e)
 
 -- ---- one block
 
@@ -49,23 +58,23 @@ session-is s Taken = refl
 session-is s Held = refl
 session-is s (Refused kind block byte) = refl
 
-stage-more : (s : Session) (a : Answer) → is_refused a ≡ false → (turn_after s a).stage ≡ 0
+stage-more : (s : Session) (a : Answer) → is_refused a ≡ false → (turn_after s a).stage ≡ More
 stage-more s Taken e = refl
 stage-more s Held e = refl
 stage-more s (Refused kind block byte) e = clash e
 
-stage-over : (s : Session) (a : Answer) → is_refused a ≡ true → (turn_after s a).stage ≡ 0 → ⊥
+stage-over : (s : Session) (a : Answer) → is_refused a ≡ true → (turn_after s a).stage ≡ More → ⊥
 stage-over s Taken e z = clash (sym e)
 stage-over s Held e z = clash (sym e)
-stage-over s (Refused kind block byte) e z = omega (arith, z)
+stage-over s (Refused kind block byte) e z = clash (sym (ap is_more z))
 
 after-going : (s : Session) (a : Answer) (n turns : ℕ) → sound s ≡ true → turns ≡ n → (is_refused a ≡ false → s.taken ≡ n)
-    → (turn_after s a).stage ≡ 0 → Going n turns (turn_after s a)
+    → (turn_after s a).stage ≡ More → Going n turns (turn_after s a)
 after-going s Taken n turns t u k z = record { plain = refl; sound-is = t; turns-are = u; taken_is = k refl }
 after-going s Held n turns t u k z = record { plain = refl; sound-is = t; turns-are = u; taken_is = k refl }
-after-going s (Refused kind block byte) n turns t u k z = absurd (omega (arith, z))
+after-going s (Refused kind block byte) n turns t u k z = clash (sym (ap is_more z))
 
-module _ {grid : List ℤ} {n : ℕ} (x : Stand) (k : Stands grid n x) (z : x.turn.stage ≡ 0) where
+module _ {grid : List ℤ} {n : ℕ} (x : Stand) (k : Stands grid n x) (z : x.turn.stage ≡ More) where
   abbrev s : Session
   s = x.turn.session
 
@@ -85,7 +94,7 @@ module _ {grid : List ℤ} {n : ℕ} (x : Stand) (k : Stands grid n x) (z : x.tu
               steps = (ap (λ (m : ℕ). step_of s m block x.cells) (sym same), ap (λ (m : ℕ). cells_left s m block x.cells) (sym same));
             });
         going =
-            either (λ (t : Turn). t.stage ≡ 0 → Going (n + 1) (k.turns + 1) t) (eqb (length block) 0) (λ e. absurd (omega (arith, e)))
+            either (λ (t : Turn). t.stage ≡ More → Going (n + 1) (k.turns + 1) t) (eqb (length block) 0) (λ e. clash (sym (ap is_more e)))
             (after-going (deliver_of s s.taken block (lend x.cells)).session (deliver_of s s.taken block (lend x.cells)).answer (n + 1) (k.turns + 1)
             (sound-out s s.taken block (lend x.cells) here.sound-is)
             (ap (λ (m : ℕ). m + 1) here.turns-are)
@@ -103,7 +112,7 @@ block-step r number block l e =
     ap (λ (s : Session). stepped s block r.lent.grid) (session-is r.session r.answer)
     ∙ rw (e, ne_eqb (length block) 0 (λ z. omega (arith, l, z)))
 
-module _ {grid : List ℤ} {n : ℕ} (x : Stand) (k : Stands grid n x) (z : x.turn.stage ≡ 0) (blocks : List ℕ) where
+module _ {grid : List ℤ} {n : ℕ} (x : Stand) (k : Stands grid n x) (z : x.turn.stage ≡ More) (blocks : List ℕ) where
   abbrev start : Session
   start = x.turn.session
 
@@ -127,7 +136,7 @@ module _ {grid : List ℤ} {n : ℕ} (x : Stand) (k : Stands grid n x) (z : x.tu
       subst (λ (y : Stand). Stands grid (n + suc i) y) (ap stand_after (sym (stays start start.taken blocks lent i e)))
       (over (n + suc i) (stage-over r.session r.answer e) here))
       (λ e.
-      let m : (turn_after r.session r.answer).stage ≡ 0 = stage-more r.session r.answer e in
+      let m : (turn_after r.session r.answer).stage ≡ More = stage-more r.session r.answer e in
       let long : length block ≡ 1024 = block-long blocks i (omega (arith, le)) in
       let taken : r.session.taken ≡ n + i = ap (λ (s : Session). s.taken) (sym (session-is r.session r.answer)) ∙ (here.going m).taken_is in
       let due : start.taken + i ≡ r.session.taken = omega (arith, taken, (k.going z).taken_is) in
@@ -155,14 +164,14 @@ pick P false f g = g refl
 
 rest-further : {grid : List ℤ} {n : ℕ} (x : Stand) (rest : List ℕ) → length rest ≤ 1024 → Further grid n x → Further grid n (with_rest x rest)
 rest-further {grid} {n} x rest le k =
-    pick (Further grid n) (eqb x.turn.stage 0)
+    pick (Further grid n) (is_more x.turn.stage)
     (λ z.
     either (Further grid n) (eqb (length rest) 0) k
-    (record { blocks = k.blocks + 1; past = omega (arith, k.past); stands = step-stands x k.stands (eqb-true x.turn.stage 0 z) rest le }))
+    (record { blocks = k.blocks + 1; past = omega (arith, k.past); stands = step-stands x k.stands (more-is x.turn.stage z) rest le }))
     (λ z. k)
 
 -- whatever they are, they come to where their blocks come to one at a time
-pub taken-further : {grid : List ℤ} {n : ℕ} (x : Stand) → Stands grid n x → x.turn.stage ≡ 0 → (bytes : List ℕ)
+pub taken-further : {grid : List ℤ} {n : ℕ} (x : Stand) → Stands grid n x → x.turn.stage ≡ More → (bytes : List ℕ)
     → Further grid n (taken_of x.turn.session bytes x.cells)
 taken-further {grid} {n} x k z bytes =
     let whole = length-take (1024 * blocks_in bytes) bytes in
@@ -185,9 +194,9 @@ pub record Listing (grid : List ℤ) (t : Turn) (g : List ℤ) : Type 0 where
 
 -- the blocks that a sound session can still take
 pub to_come : Turn → ℕ
-to_come t = cond (eqb t.stage 0) (26627 - t.session.taken) 0
+to_come t = cond (is_more t.stage) (26627 - t.session.taken) 0
 
-pub begins : {grid : List ℤ} {t : Turn} → t ≡ turn fresh 0 0 0 0 → Listing grid t grid
+pub begins : {grid : List ℤ} {t : Turn} → t ≡ turn fresh More → Listing grid t grid
 begins {grid} e =
     subst (λ (t : Turn). Listing grid t grid) (sym e)
     (record {
@@ -196,7 +205,7 @@ begins {grid} e =
     })
 
 -- one turn
-module _ {grid g h : List ℤ} {t u : Turn} (k : Listing grid t g) (e : t.stage ≡ 0) (f : Fetched t.session g h u) where
+module _ {grid g h : List ℤ} {t u : Turn} (k : Listing grid t g) (e : t.stage ≡ More) (f : Fetched t.session g h u) where
   further : Further grid k.blocks (record { turn = u; cells = h })
   further =
       subst (λ (x : Stand). Further grid k.blocks x) (λ j. record { turn = sym f.comes.0 j; cells = sym f.comes.1 j })
@@ -211,13 +220,20 @@ module _ {grid g h : List ℤ} {t u : Turn} (k : Listing grid t g) (e : t.stage 
   falls =
       let was = k.stands.going e in
       let some : 1 ≤ 26627 - t.session.taken = omega (arith, taken-bound t.session was.sound-is) in
-      rw (eq-eqb t.stage 0 e)
-      (pick (λ (n : ℕ). n < 26627 - t.session.taken) (eqb u.stage 0)
+      let more : is_more t.stage ≡ true = ap is_more e in
+      rw more
+      (pick (λ (n : ℕ). n < 26627 - t.session.taken) (is_more u.stage)
       (λ z.
-      let is = further.stands.going (eqb-true u.stage 0 z) in
+      let is = further.stands.going (more-is u.stage z) in
       omega (arith, was.taken_is, is.taken_is, further.past, taken-bound u.session is.sound-is))
       (λ z. some))
 
+-- no more than was lent is taken, whatever number is answered
+pub as_answered : (s : Session) (got : ℕ) (bytes : List ℕ) (g : List ℤ) (used : ℕ) {h : List ℤ} {t : Turn} → used ≡ min got (length bytes)
+    → ComesTo (taken_of s (take used bytes) g) h t → ComesTo (taken_of s (take got bytes) g) h t
+as_answered s got bytes g used {h} {t} e =
+    subst (λ (taken : List ℕ). ComesTo (taken_of s taken g) h t) (ap (λ (n : ℕ). take n bytes) e ∙ take_min got bytes)
+
 -- no more may follow
-pub stops : {grid g : List ℤ} {t : Turn} → Listing grid t g → (t.stage ≡ 0 → ⊥) → Listed grid g t
+pub stops : {grid g : List ℤ} {t : Turn} → Listing grid t g → (t.stage ≡ More → ⊥) → Listed grid g t
 stops k ne = record { turns = k.stands.turns; reached = k.stands.reached; last = ne }

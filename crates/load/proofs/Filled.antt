@@ -23,7 +23,7 @@ use Rattle.ground.specs.Extremes.{filled_only, sum_of}
 use Rattle.ground.specs.declared.Tally.{Tally}
 use Rattle.ground.proofs.MergedTallies.{tally-merged}
 use Rattle.delivery.specs.Deliver.{filled_session, sheet_tally, profile_tally, closed_session, close_fault, close_verdict, fills, wrong, Verdict, filling, next_cell}
-use Rattle.delivery.specs.declared.Refusal.{Refusal}
+use Rattle.delivery.specs.Deliver.{Refusal}
 use Rattle.gate.specs.Gate.{taken, judged_of}
 use Rattle.progress.specs.Progress.{countable, filled_with}
 use Rattle.progress.proofs.Counts.{is-countable}

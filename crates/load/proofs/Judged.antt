@@ -1,23 +1,21 @@
 -- A block of a profile judged: a fault is its refusal, and without one it comes to the definition's verdict.
-use mathlib.Core.List.{List, []}
-use mathlib.Core.Path.{◌≡◌, sym, ◌∙◌, ap, refl, subst}
-use Prim.Native.Nat.{ℕ, ◌≤◌, ◌<◌, ◌+◌, ◌*◌, ◌^◌, min}
+use mathlib.Core.List.{List}
+use mathlib.Core.Path.{◌≡◌, sym, ◌∙◌, ap, subst}
+use Prim.Native.Nat.{ℕ, ◌≤◌, ◌+◌, ◌*◌, ◌^◌, min}
 use native.Mathlib.Omega.{arith}
 use lib.IntN.{ℤ, nat_abs}
 use lib.ListN.{length, take, length-take}
-use mathlib.Core.Bool.{true, false, Bool, cond, not}
-use borrow.Author.Tests.{eq-eqb, ne_eqb, lt-ltb, le-ltb, ltb-false, le-leb}
-use lib.Dec.{eqb, ltb}
+use mathlib.Core.Bool.{true, false}
+use borrow.Author.Tests.{eq-eqb, ne_eqb, ltb-false, le-leb}
+use lib.Dec.{eqb}
 use Rattle.laws.proofs.Tests.{by-test, and_both}
 use Rattle.field.specs.Field.{fault}
-use Rattle.field.specs.declared.Fault.{Fault}
+use Rattle.field.specs.Field.{Fault}
 use Rattle.frame.specs.Frame.{z_of, cells_of}
-use Rattle.profile.specs.RecordB.{record_b}
 use Rattle.profile.specs.declared.record_b.Head.{Head}
-use Rattle.profile.specs.RecordC.{record_c}
-use Rattle.sheet.specs.declared.Checked.{Checked}
-use Rattle.sheet.specs.declared.Checked.TheVariants.{Sheet, Refused as NoSheet}
-use Rattle.session.specs.Session.{busy, open_blocks}
+use Rattle.sheet.specs.RecordA.{Checked}
+use Rattle.sheet.specs.RecordA.Checked.{Sheet, Refused as NoSheet}
+use Rattle.session.specs.Session.{open_blocks}
 use Rattle.session.specs.declared.Session.{Session}
 use Rattle.session.specs.declared.Profile.{Profile}
 use Rattle.ground.specs.Posts.{no_tally, tally_all, heights, posts_of, posts_rest_fault}
@@ -31,11 +29,11 @@ use mir.Syntax.{w64}
 use mir.Val.{to_z, of_z}
 use mir.Facts.{to_z-of_z}
 use Rattle.laws.proofs.Integers.{size_fits}
-use Rattle.posts.specs.declared.Scan.{Scan}
-use Rattle.delivery.specs.Deliver.{Verdict, Room, too_short, again, wrong, begins, beginning, unless, filling, heights_here, fills, finished_session, further, opening, later, posts_here, opening_with, placed, first_column, opened}
+use Rattle.posts.specs.Scan.{Scan}
+use Rattle.delivery.specs.Deliver.{Verdict, Room, too_short, again, wrong, begins, beginning, unless, filling, heights_here, fills, further, posts_here, opening_with, placed, first_column, opened}
 use Rattle.gate.specs.Gate.{judged_of}
 use Rattle.gate.specs.declared.verdict.Judged.{Judged}
-use Rattle.load.specs.Steps.{Judging, Lies, ByTally, OpenProfile, Ready, Filling, Placing, Opening, Placeable}
+use Rattle.load.specs.Steps.{Judging, Lies, ByTally, OpenProfile, Ready, Filling, Placing, Opened, Opening, Placeable}
 use Rattle.load.proofs.Filled.{filling-lies, cell_room}
 
 -- a block judged for one verdict is judged for the same verdict in another form
@@ -93,13 +91,35 @@ scanned-count s datum byte n block before after r sc e =
     rw (sc.tally-is e) (omega arith)
 
 -- a scan that is asked rightly, its datum read back from the bits that carry it
-pub scan-told : (block : List ℕ) (byte n z y : ℕ) (datum : ℤ) (before after : List ℤ) (r : Scan) → length block ≡ 1024 → length before ≡ 170
+scan-told : (block : List ℕ) (byte n z y : ℕ) (datum : ℤ) (before after : List ℤ) (r : Scan) → length block ≡ 1024 → length before ≡ 170
     → 1 ≤ byte → byte + 6 * n ≤ 1025 → n ≤ 170 → z ≤ 100 → nat_abs datum ≤ 1000000 → y ≡ z
     → (r ≡ scan_of block byte n y (to_z w64 (of_z w64 datum)) (length before)) × (after ≡ scratch_after block byte n y (to_z w64 (of_z w64 datum)) before)
     → BlockScanned block byte n z datum before after r
 scan-told block byte n z y datum before after r long room from end few most near is p =
     scan-known block byte n z datum before after r y (to_z w64 (of_z w64 datum)) is (to_z-of_z {w = w64} (size_fits datum (omega (arith, near))))
     (asks block byte n z datum (length before) long from end (omega (arith, few, room)) most near)
+    p
+
+pub further-scanned : (s : Session) (number : ℕ) (block : List ℕ) (before after : List ℤ) (n z : ℕ) (r : Scan) → Opened s number block before
+    → n ≡ posts_here s.profile 170 → z ≡ z_of s.header
+    → (r ≡ scan_of block 1 n z (to_z w64 (of_z w64 s.profile.datum)) (length before))
+    × (after ≡ scratch_after block 1 n z (to_z w64 (of_z w64 s.profile.datum)) before)
+    → BlockScanned block 1 n (z_of s.header) s.profile.datum before after r
+further-scanned s number block before after n z r o e is p =
+    scan-told block 1 n (z_of s.header) z s.profile.datum before after r o.long o.room (omega arith) (omega (arith, e)) (omega (arith, e)) o.ready.z-most
+    (o.ready.profile-is o.busy-is).datum-most
+    is
+    p
+
+pub opening-scanned : (s : Session) (number : ℕ) (block : List ℕ) (head : Head) (before after : List ℤ) (n z : ℕ) (r : Scan)
+    → Opening s number block head before → n ≡ min head.posts 146 → z ≡ z_of s.header
+    → (r ≡ scan_of block 145 n z (to_z w64 (of_z w64 head.datum)) (length before))
+    × (after ≡ scratch_after block 145 n z (to_z w64 (of_z w64 head.datum)) before)
+    → BlockScanned block 145 n (z_of s.header) head.datum before after r
+opening-scanned s number block head before after n z r o e is p =
+    scan-told block 145 n (z_of s.header) z head.datum before after r o.long o.room (omega arith) (omega (arith, e)) (omega (arith, e)) o.ready.z-most
+    o.datum-most
+    is
     p
 
 -- what is known of a profile whose next n posts were scanned without fault
@@ -179,34 +199,3 @@ module _ (s : Session) (p : Profile) (byte n : ℕ) (block : List ℕ) (before a
         omega (arith, counted, cell_room s number column p g n k.read-most),
         ap (λ (m : ℕ). take m after) (sym counted) ∙ sc.heights-are e,
       )
-
--- which of a later block's three ways is gone
-pick_first : (b : Bool) (x y : Verdict) → b ≡ true → x ≡ cond b x y
-pick_first b x y e = sym (ap (λ (t : Bool). cond t x y) e)
-
-pick_second : (b : Bool) (x y : Verdict) → b ≡ false → y ≡ cond b x y
-pick_second b x y e = sym (ap (λ (t : Bool). cond t x y) e)
-
-module _ (s : Session) (number : ℕ) (block : List ℕ) where
-  pub later-goes-on : (s.profile.posts ≡ 0 → ⊥) → further s number block ≡ later s number block
-  later-goes-on h = pick_first (busy s) (further s number block) _ (ap not (ne_eqb s.profile.posts 0 h))
-
-  module _ (idle : s.profile.posts ≡ 0) where
-    idle-is : busy s ≡ false
-    idle-is = ap not (eq-eqb s.profile.posts 0 idle)
-
-    pub later-opens : s.closed < s.header.profiles
-        → opening s number block (record_b s.family (s.closed + 1) block) ≡ later s number block
-    later-opens h =
-        pick_first (ltb s.closed s.header.profiles) (opening s number block (record_b s.family (s.closed + 1) block)) _ (lt-ltb s.closed s.header.profiles h)
-        ∙ pick_second (busy s) (further s number block) _ idle-is
-
-    pub later-ends : s.header.profiles ≤ s.closed
-        → unless (record_c block) number (fills (finished_session s) 0 []) ≡ later s number block
-    later-ends h =
-        pick_second (ltb s.closed s.header.profiles) (opening s number block (record_b s.family (s.closed + 1) block)) _ (le-ltb s.closed s.header.profiles h)
-        ∙ pick_second (busy s) (further s number block) _ idle-is
-
-pub finish-lies : (s : Session) (number : ℕ) (block : List ℕ) (cells : ℕ) (scratch : List ℤ)
-    → Lies cells scratch (unless (record_c block) number (fills (finished_session s) 0 []))
-finish-lies s number block cells scratch = by-test (eqb (record_c block).kind 0) (λ e. rw e (omega arith, refl)) (λ e. rw e tt)

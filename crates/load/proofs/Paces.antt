@@ -4,34 +4,26 @@ use mathlib.Core.List.{List}
 use mathlib.Core.Path.{◌≡◌, refl, sym, ◌∙◌, ap}
 use Prim.Native.Nat.{ℕ, ◌≤◌, ◌+◌, ◌-◌, ◌*◌}
 use native.Mathlib.Omega.{arith}
-use borrow.Author.Tests.{eq-eqb}
-use lib.Dec.{eqb, ltb, leb}
+use lib.Dec.{leb}
 use lib.IntN.{ℤ}
 use lib.ListN.{length, take, drop}
 use Rattle.ground.specs.Blocks.{block_at}
 use Rattle.laws.proofs.Tests.{clash}
 use Rattle.frame.specs.Frame.{cells_of}
 use Rattle.session.specs.declared.Session.{Session}
-use Rattle.session.specs.Session.{sound, complete}
+use Rattle.session.specs.Session.{sound}
 use Rattle.session.proofs.Sound.{taken-bound}
 use Rattle.delivery.specs.declared.Answer.{Answer}
 use Rattle.delivery.specs.declared.Answer.TheVariants.{Taken, Held, Refused}
 use Rattle.delivery.specs.declared.Delivered.{Delivered}
 use Rattle.delivery.specs.Deliver.{Lent, lend, room_of, Verdict, verdict_of, answer_of, deliver_of, lent_after}
 use Rattle.delivery.proofs.SoundOut.{sound-out}
-use Rattle.gate.specs.Gate.{room, gate_by, gate_of}
 use Rattle.runs.specs.Run.{Running, running, is_refused, counted, with_block, go_on, run_to, run_of, ran_of}
 use Rattle.runs.specs.declared.Ran.{Ran}
 use Rattle.runs.proofs.RunLaws.{goes_on, run-next, run-stays, count_most}
 use Rattle.runs.proofs.Passed.{is_taken, Shows, shown, unmoved}
 use Rattle.load.specs.declared.run.Pace.{Pace}
 use Rattle.load.specs.Steps.{Pacing, standing, paced_by}
-
--- the tests that a run does not ask again
-pub order-gate : (s : Session) (number : ℕ) (block : List ℕ) (cells : ℕ) (roomy : Bool) → sound s ≡ true → length block ≡ 1024
-    → leb (cells_of s.header) cells ≡ roomy
-    → gate_by true true (ltb number s.taken) (ltb s.taken number) (eqb number 0) (complete s) roomy ≡ gate_of s number (length block) (room cells)
-order-gate s number block cells roomy t l r = rw (eq-eqb (length block) 1024 l, t, r)
 
 -- what is known after a block
 pub record Paced (s : Session) (number count : ℕ) (block : List ℕ) (grid after : List ℤ) (r : Pace) : Type 0 where

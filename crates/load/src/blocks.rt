@@ -12,7 +12,8 @@ use crate::steps;
 use gate::verdict;
 use gate::verdict::Judged;
 use ground::Tally;
-use profile::record_b::{Head, Headed};
+use kinds::Kind;
+use profile::record_b::Head;
 use session::Session;
 
 // A further block of the open profile: posts from byte 1, at most 170.
@@ -21,16 +22,15 @@ fn further_block(s: Session, number: u64, block: &[u8], scratch: &mut [i32]) -> 
     ensures { Judging s (further s number block.now) (cells_of s.header) scratch.new result }
 {
     let p = s.profile;
-    let h = s.header;
-    let n = figures::fewer_of(p.posts - p.read, 170);
-    let z = frame::z_of(h);
-    let r = posts::scan_block(block, 1, n as usize, z, p.datum, scratch);
-    if r.kind != 0 {
-        return verdict::refused(s, r.kind, number, r.byte);
+    let n = (p.posts - p.read).min(170);
+    let z = frame::z_of(s.header);
+    match posts::scan_block(block, 1, n as usize, z, p.datum, scratch) {
+        Ok(tally) => {
+            let sum = posts::sum_filled(scratch, n as usize);
+            steps::fill_step(s, number, s.column, p, n, tally, sum)
+        }
+        Err(b) => verdict::refused(s, b.kind, number, b.byte),
     }
-    let tally = r.tally;
-    let sum = posts::sum_filled(scratch, n as usize);
-    steps::fill_step(s, number, s.column, p, n, tally, sum)
 }
 
 // A profile's first block whose posts are good: its place, then its cells.
@@ -38,14 +38,13 @@ fn place_profile(s: Session, number: u64, head: Head, n: u64, u: Tally, sum: i64
     requires { Placeable s number head n u sum }
     ensures { ByTally s (λ hs. placed s number head (filling s number (first_column s head) (opened s head) hs)) n u sum result }
 {
-    let h = s.header;
-    let c = frame::column_of(h, head.x);
+    let c = frame::column_of(s.header, head.x);
     if !rules::column_fits(s, c) {
-        return verdict::refused(s, 10, number, 25);
+        return verdict::refused(s, Kind::Place, number, 25);
     }
-    let w = frame::row_of(h, head.y);
+    let w = frame::row_of(s.header, head.y);
     if !rules::row_fits(s, head.posts, w) {
-        return verdict::refused(s, 10, number, 49);
+        return verdict::refused(s, Kind::Place, number, 49);
     }
     let column = rules::first_column(s, c);
     let p = rules::open_profile(head, w);
@@ -57,16 +56,15 @@ fn open_block(s: Session, number: u64, block: &[u8], head: Head, scratch: &mut [
     requires { Opening s number block.now head scratch.old }
     ensures { Judging s (opening_with s number block.now head) (cells_of s.header) scratch.new result }
 {
-    let h = s.header;
-    let n = figures::fewer_of(head.posts, 146);
-    let z = frame::z_of(h);
-    let r = posts::scan_block(block, 145, n as usize, z, head.datum, scratch);
-    if r.kind != 0 {
-        return verdict::refused(s, r.kind, number, r.byte);
+    let n = head.posts.min(146);
+    let z = frame::z_of(s.header);
+    match posts::scan_block(block, 145, n as usize, z, head.datum, scratch) {
+        Ok(tally) => {
+            let sum = posts::sum_filled(scratch, n as usize);
+            place_profile(s, number, head, n, tally, sum)
+        }
+        Err(b) => verdict::refused(s, b.kind, number, b.byte),
     }
-    let tally = r.tally;
-    let sum = posts::sum_filled(scratch, n as usize);
-    place_profile(s, number, head, n, tally, sum)
 }
 
 // The next profile's first block, whose head is read first.
@@ -74,10 +72,9 @@ fn start_profile(s: Session, number: u64, block: &[u8], scratch: &mut [i32]) -> 
     requires { Next s number block.now scratch.old × ((busy s ≡ false) × (s.closed < s.header.profiles)) }
     ensures { Judging s (opening s number block.now (record_b s.family (s.closed + 1) block.now)) (cells_of s.header) scratch.new result }
 {
-    let headed = profile::record_b::read_head(s.family, s.closed + 1, block);
-    match headed {
-        Headed::Profile(head) => open_block(s, number, block, head, scratch),
-        Headed::Refused(kind, byte) => verdict::refused(s, kind, number, byte),
+    match profile::record_b::read_head(s.family, s.closed + 1, block) {
+        Ok(head) => open_block(s, number, block, head, scratch),
+        Err(b) => verdict::refused(s, b.kind, number, b.byte),
     }
 }
 
@@ -86,11 +83,10 @@ fn finish_sheet(s: Session, number: u64, block: &[u8]) -> Judged
     requires { s.taken ≤ 26626 }
     ensures { result ≡ judged_of s (unless (record_c block.now) number (fills (finished_session s) 0 [])) }
 {
-    let f = profile::record_c::check_record_c(block);
-    if f.kind != 0 {
-        return verdict::refused(s, f.kind, number, f.byte);
+    match profile::record_c::check_record_c(block) {
+        Ok(()) => verdict::taken(progress::finish_session(s), 0, 0, 0),
+        Err(b) => verdict::refused(s, b.kind, number, b.byte),
     }
-    verdict::taken(progress::finish_session(s), 0, 0, 0)
 }
 
 // A later block, judged whole before a cell is written.
@@ -98,12 +94,10 @@ pub(crate) fn later_block(s: Session, number: u64, block: &[u8], scratch: &mut [
     requires { Next s number block.now scratch.old }
     ensures { Judging s (later s number block.now) (cells_of s.header) scratch.new result }
 {
-    let p = s.profile;
-    let h = s.header;
-    if p.posts != 0 {
+    if s.profile.posts != 0 {
         return further_block(s, number, block, scratch);
     }
-    if s.closed < h.profiles {
+    if s.closed < s.header.profiles {
         return start_profile(s, number, block, scratch);
     }
     finish_sheet(s, number, block)

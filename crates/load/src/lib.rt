@@ -12,6 +12,7 @@ ghost use Rattle.load.specs.Steps.{Judging, told, grid_by};
 
 use delivery::Delivered;
 use gate::verdict::{Gate, Judged};
+use kinds::Kind;
 use runs::Ran;
 use session::Session;
 
@@ -41,9 +42,10 @@ fn apply(judged: Judged, scratch: &[i32], grid: &mut [i32]) -> Delivered
 {
     posts::void_cells(grid, judged.voids as usize);
     posts::place(grid, judged.at as usize, scratch, judged.heights as usize);
-    let answer = judged.answer;
-    let session = judged.session;
-    Delivered { answer, session }
+    Delivered {
+        answer: judged.answer,
+        session: judged.session,
+    }
 }
 
 // A delivery past the first tests: judged, then done.
@@ -59,7 +61,7 @@ pub(crate) fn settle(
     ensures { (result ≡ deliver_of s number block.now (lend grid.old)) × (grid.new ≡ (lent_after s number block.now (lend grid.old)).grid) }
 {
     let judged = judge(g, s, number, block, grid.len(), scratch);
-    apply(judged, &scratch[..], grid)
+    apply(judged, scratch, grid)
 }
 
 // One delivery: any session, number, bytes and grid are answered; a refused or held block changes nothing.
@@ -76,13 +78,13 @@ pub fn deliver_run(s: Session, number: u64, blocks: &[u8], grid: &mut [i32]) -> 
     ensures { (result ≡ ran_of (run_of s number blocks.now (lend grid.old))) × (grid.new ≡ (run_of s number blocks.now (lend grid.old)).lent.grid) }
 {
     if blocks.len() % 1024 != 0 {
-        return run::refused(s, 1, number);
+        return run::refused(s, Kind::Length, number);
     }
-    if blocks.len() == 0 {
+    if blocks.is_empty() {
         return run::set_out(s);
     }
     if !session::is_sound(s) {
-        return run::refused(s, 2, number);
+        return run::refused(s, Kind::Unsound, number);
     }
     run::all_blocks(s, number, blocks, grid)
 }

@@ -5,9 +5,11 @@ ghost use Rattle.session.specs.Session.{sound};
 ghost use Rattle.delivery.specs.Deliver.{lend};
 ghost use Rattle.delivery.specs.declared.Answer.TheVariants.{Held, Refused};
 ghost use Rattle.runs.specs.Run.{with_block, run_to};
+ghost use Rattle.kinds.specs.Kinds.{number_of};
 ghost use Rattle.load.specs.Steps.{Pacing, standing, paced_by};
 
 use delivery::{Answer, Delivered};
+use kinds::Kind;
 use runs::Ran;
 use session::Session;
 
@@ -19,11 +21,11 @@ pub(crate) struct Pace {
     pub more: bool,
 }
 
-pub(crate) fn refused(s: Session, kind: u32, number: u64) -> Ran
-    ensures { result ≡ record { answer = Refused kind number 0; session = s; count = 0 } }
+pub(crate) fn refused(s: Session, kind: Kind, number: u64) -> Ran
+    ensures { result ≡ record { answer = Refused (number_of kind) number 0; session = s; count = 0 } }
 {
     Ran {
-        answer: Answer::Refused(kind, number, 0),
+        answer: Answer::Refused(kind.number(), number, 0),
         session: s,
         count: 0,
     }
@@ -45,8 +47,7 @@ fn paced(roomy: bool, count: u64, d: Delivered) -> Pace
     ensures { result ≡ paced_by roomy count d.session d.answer }
 {
     let session = d.session;
-    let answer = d.answer;
-    match answer {
+    match d.answer {
         Answer::Taken => Pace {
             ran: Ran {
                 answer: Answer::Taken,
@@ -82,11 +83,10 @@ fn next_block(p: Pace, number: u64, block: &[u8], scratch: &mut [i32], grid: &mu
     requires { Pacing (length grid.old) p × ((length block.now ≡ 1024) × ((length scratch.old ≡ 170) × (p.ran.count < 2 ^ 63))) }
     ensures { Pacing (length grid.new) result × ((standing result.ran grid.new ≡ with_block (standing p.ran grid.old) number block.now) × (result.more ≡ true → number ≤ 26626)) }
 {
-    let ran = p.ran;
-    let s = ran.session;
+    let s = p.ran.session;
     let g = gate::order(s, number, p.roomy);
     let d = crate::settle(g, s, number, block, scratch, grid);
-    paced(p.roomy, ran.count, d)
+    paced(p.roomy, p.ran.count, d)
 }
 
 // All blocks, up to the first refusal.
@@ -95,19 +95,19 @@ pub(crate) fn all_blocks(s: Session, number: u64, blocks: &[u8], grid: &mut [i32
     ensures { standing result grid.new ≡ run_to s number blocks.now (lend grid.old) (blocks_in blocks.now) }
 {
     let mut scratch = [0i32; 170];
-    let h = s.header;
-    let n = blocks.len() / 1024;
     let mut p = Pace {
         ran: set_out(s),
-        roomy: frame::has_room(h, grid.len() as u64),
+        roomy: frame::has_room(s.header, grid.len() as u64),
         more: true,
     };
-    let mut i = 0usize;
-    while i < n && p.more {
+    // Kept: blocks by their number, since the library here has no `chunks_exact`.
+    for i in 0..blocks.len() / 1024 {
         let from = 1024 * i;
-        let to = from + 1024;
-        p = next_block(p, number + i as u64, &blocks[from..to], &mut scratch, grid);
-        i += 1;
+        let block = &blocks[from..from + 1024];
+        p = next_block(p, number + i as u64, block, &mut scratch, grid);
+        if !p.more {
+            break;
+        }
     }
     p.ran
 }

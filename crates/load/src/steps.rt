@@ -7,6 +7,7 @@ ghost use Rattle.load.specs.Steps.{ByTally, Filling, Placing};
 use gate::verdict;
 use gate::verdict::Judged;
 use ground::Tally;
+use kinds::Kind;
 use session::{Profile, Session};
 
 // The cell of a profile's next post.
@@ -14,8 +15,7 @@ fn next_cell(s: Session, column: u64, p: Profile) -> u64
     requires { (rows_of s.header ≤ 2048) × ((column + s.closed < 2048) × (p.row + p.read < 4096)) }
     ensures { result ≡ next_cell s column p }
 {
-    let h = s.header;
-    let rows = frame::rows(h);
+    let rows = frame::rows(s.header);
     (column + s.closed) * rows + p.row + p.read
 }
 
@@ -37,9 +37,8 @@ pub(crate) fn fill_step(
     if p.read + n < p.posts {
         return verdict::taken(after, 0, at, n);
     }
-    let c = rules::close_fault(number - session::open_blocks(s), after);
-    if c.kind != 0 {
-        return verdict::refused(s, c.kind, c.block, c.byte);
+    match rules::close_fault(number - session::open_blocks(s), after) {
+        Ok(()) => verdict::taken(progress::close_session(after), 0, at, n),
+        Err(m) => verdict::refused(s, Kind::Extreme, m.block, m.byte),
     }
-    verdict::taken(progress::close_session(after), 0, at, n)
 }

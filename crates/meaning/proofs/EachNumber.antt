@@ -16,14 +16,14 @@ use Rattle.laws.specs.Family.{is_canadian}
 use Rattle.laws.specs.Sign.{same_z, not_negative, ◌and◌}
 use Rattle.laws.proofs.SameNumbers.{same_z-is, same_z-fails}
 use Rattle.laws.proofs.Tests.{by-test, clash, split}
-use Rattle.number.specs.declared.Reading.{Reading}
+use Rattle.number.specs.Reading.{Reading}
 use Rattle.number.specs.Integer.{integer}
 use Rattle.number.specs.Real.{real}
 use Rattle.number.specs.Grammar.{IntegerMeans, RealMeans}
 use Rattle.number.proofs.Grammar.{integer-means, integer-pointed, real-means, real-pointed}
 use Rattle.field.proofs.Ranges.{posts-kind}
 use Rattle.field.specs.Field.{real_at, stretch, rest_fault, limits, posts_limits, in_range, in_limits, ranged, whole_at}
-use Rattle.field.specs.declared.Limits.{Limits}
+use Rattle.field.specs.Field.{Limits}
 use Rattle.corner.specs.Corner.{arc_seconds}
 use Rattle.heading.specs.Heading.{Name, limits_of, family_limits, spacing_at, header_of}
 use Rattle.heading.specs.Heading.Name.{level, system, zone, ground, vertical, accuracy, spacing, height as tall, profiles, minutes, seconds}
@@ -33,7 +33,7 @@ use Rattle.sheet.specs.RecordA.Rule.{spaced}
 use Rattle.sheet.proofs.HeaderA.{front-field, field-fine}
 use Rattle.sheet.proofs.RulesA.{sheet-fine, sheet-corner}
 use Rattle.profile.specs.RecordB.{record_b, head_fault, head_fields, head_of, hundredths, is_datum, datum_field}
-use Rattle.profile.specs.declared.record_b.Headed.TheVariants.{Profile}
+use Rattle.profile.specs.RecordB.Headed.{Profile}
 use Rattle.profile.proofs.RecordLaws.{head-bounds, all_read}
 use Rattle.ground.specs.Blocks.{block_at, blocks_in}
 use Rattle.ground.specs.Posts.{judge_post, posts_fault, void, void_post, filled_in}

@@ -1,5 +1,6 @@
 -- A text and the same text with one block more: what the first has, the second has too, profile by profile and post by post.
 -- That the earlier blocks are the same carries it.
+use Rattle.std.specs.Prelude.{Option}
 use mathlib.Core.List.{List, ◌++◌, map, ◌∷◌, []}
 use Prim.Native.Nat.{ℕ, ◌/◌, suc, ◌<◌, ◌*◌, ◌≤◌, zero, ◌+◌, ◌-◌, min}
 use lib.IntN.{ℤ}
@@ -14,7 +15,6 @@ use Rattle.laws.proofs.Tests.{by-test}
 use Rattle.laws.proofs.Lists.{map_same, from-append, map-append, map-shift, joined-until, append-brackets}
 use Rattle.number.specs.Integer.{integer}
 use Rattle.lattice.specs.Lattice.{lattice_of, place_of}
-use Rattle.lattice.specs.declared.Place.{Place}
 use Rattle.field.specs.Field.{stretch}
 use Rattle.frame.specs.Frame.{west, east, south, north}
 use Rattle.frame.specs.declared.Header.{Header}
@@ -28,10 +28,10 @@ use Rattle.meaning.specs.Rules.{posts_of_block, posts_byte}
 use Rattle.meaning.proofs.Starts.{next_start, start-order, none_yet}
 
 -- what is looked up, over the header, the profile's head and the block that it depends on
-abbrev pub column_by : Header → Head → Place
+abbrev pub column_by : Header → Head → Option ℕ
 column_by h d = place_of (lattice_of (west h) (east h) h.xstep) h.xstep d.x
 
-abbrev pub row_by : Header → Head → Place
+abbrev pub row_by : Header → Head → Option ℕ
 row_by h d = place_of (lattice_of (south h) (north h) h.ystep) h.ystep d.y
 
 abbrev height_by : ℕ → Header → Head → List ℕ → ℤ

@@ -1,4 +1,5 @@
 -- A later block of a profile, its first or a further one: the verdict on it is the first rule that it breaks, as the text has them.
+use Rattle.std.specs.Prelude.{None, Option, Some}
 use mathlib.Core.Bool.{Bool, false, cond, true}
 use Prim.Native.Nat.{ℕ, ◌+◌, ◌*◌, zero, suc, ◌-◌, ◌≤◌, ◌<◌, min}
 use lib.Dec.{leb, eqb, ltb}
@@ -9,8 +10,6 @@ use borrow.Author.Tests.{lt-ltb, ne_eqb}
 use Rattle.ground.specs.Blocks.{block_at, blocks_in}
 use Rattle.ground.proofs.BlocksJoined.{Extends}
 use Rattle.laws.proofs.Tests.{by-test}
-use Rattle.lattice.specs.declared.Place.{Place}
-use Rattle.lattice.specs.declared.Place.TheVariants.{On, Off}
 use Rattle.lattice.specs.Lattice.{place_number}
 use Rattle.field.specs.Field.{rest_fault}
 use Rattle.frame.specs.declared.Header.{Header}
@@ -30,17 +29,17 @@ use Rattle.meaning.proofs.Joined.{Here, column_by, row_by, header-same, head-sam
 use Rattle.meaning.proofs.SessionGrows.{read_so_far, closed-here, read_is}
 
 -- `column_fits` over what it looks at
-abbrev fits : ℕ → Header → ℕ → Place → Bool
-fits closed h column (On a) = cond (eqb closed 0) (leb (a + h.profiles) (columns_of h)) (eqb a (column + closed))
-fits closed h column Off = false
+abbrev fits : ℕ → Header → ℕ → Option ℕ → Bool
+fits closed h column (Some a) = cond (eqb closed 0) (leb (a + h.profiles) (columns_of h)) (eqb a (column + closed))
+fits closed h column None = false
 
-fits-is : (s : Session) (p : Place) → column_fits s p ≡ fits s.closed s.header s.column p
-fits-is s (On a) = refl
-fits-is s Off = refl
+fits-is : (s : Session) (p : Option ℕ) → column_fits s p ≡ fits s.closed s.header s.column p
+fits-is s (Some a) = refl
+fits-is s None = refl
 
-number_is : (p : Place) → place_number p ≡ number_on p
-number_is (On i) = refl
-number_is Off = refl
+number_is : (p : Option ℕ) → place_number p ≡ number_on p
+number_is (Some i) = refl
+number_is None = refl
 
 -- the rules of one block, over its number and its bytes
 abbrev pub rules_at : ℕ → ℕ → ℕ → List ℕ → List Breach
@@ -146,10 +145,10 @@ module _ (family : ℕ) (text more block : List ℕ) (k : ℕ) (x : Extends text
         ∙ (λ i. fits (closed-is-c i) (sym (header-same text more block k x some) i) s.column (column_place_in more c))
         ∙ go c refl (column_place_in more c)
       where
-        go : (j : ℕ) → j ≡ c → (p : Place) → fits j (header_in more) (begun_session family text).column p ≡ column_kept more j p
-        go j e Off = refl
-        go zero e (On a) = refl
-        go (suc j) e (On a) =
+        go : (j : ℕ) → j ≡ c → (p : Option ℕ) → fits j (header_in more) (begun_session family text).column p ≡ column_kept more j p
+        go j e None = refl
+        go zero e (Some a) = refl
+        go (suc j) e (Some a) =
             let lt : 1 < k = omega (arith, start-from text c, opens, e) in
             let z : eqb (suc j) 0 ≡ false = ne_eqb (suc j) 0 (λ q. omega (arith, q)) in
             rw z
@@ -158,9 +157,9 @@ module _ (family : ℕ) (text more block : List ℕ) (k : ℕ) (x : Extends text
     row-test : row_fits (begun_session family text) (head_in more c).posts (row_place_in more c) ≡ row_kept more c (row_place_in more c)
     row-test = go (row_place_in more c)
       where
-        go : (p : Place) → row_fits (begun_session family text) (head_in more c).posts p ≡ row_kept more c p
-        go Off = refl
-        go (On r) = ap (λ (h : Header). leb (r + (head_in more c).posts) (rows_of h)) (sym (header-same text more block k x some))
+        go : (p : Option ℕ) → row_fits (begun_session family text) (head_in more c).posts p ≡ row_kept more c p
+        go None = refl
+        go (Some r) = ap (λ (h : Header). leb (r + (head_in more c).posts) (rows_of h)) (sym (header-same text more block k x some))
 
     pub place-verdict : (v : Verdict)
         → placed (begun_session family text) k (head_of block) v ≡ by_breach (first_broken (place_rules more c)) v
@@ -187,7 +186,7 @@ module _ (family : ℕ) (text more block : List ℕ) (k : ℕ) (x : Extends text
 
     column-first : first_column (begun_session family text) (head_of block) ≡ column_in more 0
     column-first =
-        ap₂ (λ (n : ℕ) (p : Place). cond (eqb n 0) (place_number p) (begun_session family text).column) closed-is-c column-place ∙ go c refl
+        ap₂ (λ (n : ℕ) (p : Option ℕ). cond (eqb n 0) (place_number p) (begun_session family text).column) closed-is-c column-place ∙ go c refl
       where
         go : (j : ℕ) → j ≡ c → cond (eqb j 0) (place_number (column_place_in more j)) (begun_session family text).column ≡ column_in more 0
         go zero e = number_is (column_place_in more 0)

@@ -1,4 +1,5 @@
 -- Where each begun profile of a text that breaks no rule stands, and how many posts it has. The list of rules, taken apart, carries it.
+use Rattle.std.specs.Prelude.{None, Option, Some}
 use mathlib.Core.List.{List, ◌∷◌, ◌++◌, map, []}
 use mathlib.Core.Path.{◌≡◌, refl, sym}
 use borrow.Author.Tests.{eqb-true, eqb-false, leb-true, eq-eqb, lt-ltb}
@@ -11,15 +12,13 @@ use Rattle.ground.specs.Blocks.{blocks_in, block_at}
 use Rattle.laws.specs.Family.{known}
 use Rattle.laws.specs.Lists.{below, joined}
 use Rattle.laws.proofs.Tests.{by-test, clash}
-use Rattle.lattice.specs.declared.Place.{Place}
-use Rattle.lattice.specs.declared.Place.TheVariants.{On, Off}
 use Rattle.heading.proofs.HeadingFacts.{Framed, family-facts}
 use Rattle.sheet.specs.RecordA.{fault_of, record_of}
-use Rattle.sheet.specs.declared.Checked.TheVariants.{Sheet}
+use Rattle.sheet.specs.RecordA.Checked.{Sheet}
 use Rattle.sheet.proofs.SheetObeys.{family-sheet-obeys}
 use Rattle.sheet.proofs.RulesA.{fine-known}
 use Rattle.profile.specs.RecordB.{record_b, head_fault, head_of}
-use Rattle.profile.specs.declared.record_b.Headed.TheVariants.{Profile}
+use Rattle.profile.specs.RecordB.Headed.{Profile}
 use Rattle.profile.proofs.RecordLaws.{head-bounds}
 use Rattle.meaning.specs.Rules.{Breach, rule, column_kept, row_kept, when, profile_rules, has_begun, sheet_rules, end_of, end_rules, block_rules, blocks_of, is_whole, closing_rules, place_rules, in_block, breach, first_breach}
 use Rattle.meaning.specs.Text.{profiles_in, columns_in, number_on, column_in, rows_in, head_in, row_in, start_of, column_place_in, row_place_in, header_in}
@@ -41,17 +40,17 @@ rule-kept false b n h = absurd (n h)
 
 -- ---- places
 
-room-kept : (text : List ℕ) (p : Place) → column_kept text 0 p ≡ true → number_on p + profiles_in text ≤ columns_in text
-room-kept text (On c) t = leb-true (c + profiles_in text) (columns_in text) t
-room-kept text Off t = clash (sym t)
+room-kept : (text : List ℕ) (p : Option ℕ) → column_kept text 0 p ≡ true → number_on p + profiles_in text ≤ columns_in text
+room-kept text (Some c) t = leb-true (c + profiles_in text) (columns_in text) t
+room-kept text None t = clash (sym t)
 
-next-kept : (text : List ℕ) (j : ℕ) (p : Place) → column_kept text (suc j) p ≡ true → number_on p ≡ column_in text 0 + suc j
-next-kept text j (On c) t = eqb-true c (column_in text 0 + suc j) t
-next-kept text j Off t = clash (sym t)
+next-kept : (text : List ℕ) (j : ℕ) (p : Option ℕ) → column_kept text (suc j) p ≡ true → number_on p ≡ column_in text 0 + suc j
+next-kept text j (Some c) t = eqb-true c (column_in text 0 + suc j) t
+next-kept text j None t = clash (sym t)
 
-row_kept-room : (text : List ℕ) (j : ℕ) (p : Place) → row_kept text j p ≡ true → number_on p + (head_in text j).posts ≤ rows_in text
-row_kept-room text j (On r) t = leb-true (r + (head_in text j).posts) (rows_in text) t
-row_kept-room text j Off t = clash (sym t)
+row_kept-room : (text : List ℕ) (j : ℕ) (p : Option ℕ) → row_kept text j p ≡ true → number_on p + (head_in text j).posts ≤ rows_in text
+row_kept-room text j (Some r) t = leb-true (r + (head_in text j).posts) (rows_in text) t
+row_kept-room text j None t = clash (sym t)
 
 pub record PlacedAt (text : List ℕ) (j : ℕ) : Type 0 where
   pub column : column_in text j ≡ column_in text 0 + j

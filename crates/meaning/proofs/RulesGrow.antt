@@ -1,4 +1,5 @@
 -- What the next block adds to the rules of a text that breaks none. That the rules of earlier blocks are the same, and kept, carries it.
+use Rattle.std.specs.Prelude.{None, Option, Some}
 use mathlib.Core.List.{List, ◌∷◌, ◌++◌, [], map}
 use mathlib.Core.Path.{◌≡◌, ◌∙◌, ap, refl, sym, ap₂}
 use borrow.Author.Tests.{eq-eqb, ne_eqb, lt-ltb, le-ltb, le-leb, lt-leb}
@@ -12,15 +13,13 @@ use Rattle.ground.proofs.BlocksJoined.{Extends}
 use Rattle.laws.specs.Lists.{from, below, joined}
 use Rattle.laws.specs.Sign.{same_z}
 use Rattle.laws.proofs.Lists.{append-brackets, from-append, map-append, append-nil, joined-append, map_same, joined-empty, joined-until}
-use Rattle.lattice.specs.declared.Place.{Place}
-use Rattle.lattice.specs.declared.Place.TheVariants.{On, Off}
 use Rattle.field.specs.Field.{rest_fault}
 use Rattle.frame.specs.declared.Header.{Header}
 use Rattle.frame.specs.Frame.{columns_of, rows_of}
 use Rattle.heading.specs.Heading.{header_of}
 use Rattle.heading.proofs.HeadingFacts.{family-facts}
 use Rattle.sheet.specs.RecordA.{fault_of, record_of}
-use Rattle.sheet.specs.declared.Checked.TheVariants.{Sheet}
+use Rattle.sheet.specs.RecordA.Checked.{Sheet}
 use Rattle.sheet.proofs.SheetObeys.{family-sheet-obeys}
 use Rattle.sheet.proofs.RulesA.{fine-known}
 use Rattle.profile.specs.declared.record_b.Head.{Head}
@@ -140,20 +139,20 @@ module _ (family : ℕ) (text more block : List ℕ) (k : ℕ) (x : Extends text
   further_same j n h lt =
       ap joined (map_same (further_rules more j) (further_rules text j) 0 n (λ i p q. block_same j (suc i) h (omega (arith, q, lt))))
 
-  column-rule-same : 1 ≤ k → (j : ℕ) (p : Place) → start_of text j < k → column_kept more j p ≡ column_kept text j p
-  column-rule-same some zero (On c) h =
+  column-rule-same : 1 ≤ k → (j : ℕ) (p : Option ℕ) → start_of text j < k → column_kept more j p ≡ column_kept text j p
+  column-rule-same some zero (Some c) h =
       ap (λ (a : Header). leb (c + a.profiles) (columns_of a)) (header-same text more block k x some)
-  column-rule-same some (suc j) (On c) h =
+  column-rule-same some (suc j) (Some c) h =
       let first : start_of text 0 < k = omega (arith, start-order text 0 (suc j) (omega arith), h) in
-      ap (λ (p : Place). eqb c (number_on p + suc j)) (column-same text more block k x some 0 first)
-  column-rule-same some zero Off h = refl
-  column-rule-same some (suc j) Off h = refl
+      ap (λ (p : Option ℕ). eqb c (number_on p + suc j)) (column-same text more block k x some 0 first)
+  column-rule-same some zero None h = refl
+  column-rule-same some (suc j) None h = refl
 
-  row-rule-same : 1 ≤ k → (j : ℕ) (p : Place) → start_of text j < k → row_kept more j p ≡ row_kept text j p
-  row-rule-same some j (On r) h =
+  row-rule-same : 1 ≤ k → (j : ℕ) (p : Option ℕ) → start_of text j < k → row_kept more j p ≡ row_kept text j p
+  row-rule-same some j (Some r) h =
       ap₂ (λ (d : Head) (a : Header). leb (r + d.posts) (rows_of a)) (head-same text more block k x j h)
       (header-same text more block k x some)
-  row-rule-same some j Off h = refl
+  row-rule-same some j None h = refl
 
   pub place_same : 1 ≤ k → (j : ℕ) → start_of text j < k → place_rules more j ≡ place_rules text j
   place_same some j h =

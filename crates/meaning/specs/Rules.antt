@@ -1,12 +1,11 @@
 -- Which texts of a family break no rule of document 01 and of 02, request 2, and which rule a text breaks first: whole records, each with all
 -- its blocks. Only what is asked of a record A and of a profile's head goes by the family.
+use Rattle.std.specs.Prelude.{None, Option, Some}
 use Rattle.std.specs.Prelude.{ℕ, zero, suc, ◌+◌, ◌*◌, ◌-◌, min, Bool, cond, false, List, [], ◌∷◌, ◌++◌, map, eqb, leb, ltb}
 use Rattle.ground.specs.Blocks.{block_at, blocks_in}
 use Rattle.laws.specs.Sign.{same_z}
 use Rattle.laws.specs.Lists.{below, joined}
-use Rattle.lattice.specs.declared.Place.{Place}
-use Rattle.lattice.specs.declared.Place.TheVariants.{On, Off}
-use Rattle.field.specs.declared.Fault.{Fault}
+use Rattle.field.specs.Field.{Fault}
 use Rattle.field.specs.Field.{rest_fault}
 use Rattle.sheet.specs.RecordA.{fault_of}
 use Rattle.profile.specs.RecordB.{head_fault}
@@ -66,15 +65,15 @@ block_rules text j k =
     ∷ []
 
 -- "x is on the lattice": the first profile so that all n find room, every other one column east of the one before
-abbrev pub column_kept : List ℕ → ℕ → Place → Bool
-column_kept text j Off = false
-column_kept text zero (On c) = leb (c + profiles_in text) (columns_in text)
-column_kept text (suc j) (On c) = eqb c (column_in text 0 + suc j)
+abbrev pub column_kept : List ℕ → ℕ → Option ℕ → Bool
+column_kept text j None = false
+column_kept text zero (Some c) = leb (c + profiles_in text) (columns_in text)
+column_kept text (suc j) (Some c) = eqb c (column_in text 0 + suc j)
 
 -- "y is on the lattice": and the m posts from its row on do not pass the rows
-abbrev pub row_kept : List ℕ → ℕ → Place → Bool
-row_kept text j Off = false
-row_kept text j (On r) = leb (r + (head_in text j).posts) (rows_in text)
+abbrev pub row_kept : List ℕ → ℕ → Option ℕ → Bool
+row_kept text j None = false
+row_kept text j (Some r) = leb (r + (head_in text j).posts) (rows_in text)
 
 abbrev pub place_rules : List ℕ → ℕ → List Breach
 place_rules text j =

@@ -10,12 +10,11 @@
 --
 -- Four counters, each from 0: b the blocks of the text, j its profiles, k the blocks of one profile, i its posts. Profile 0 starts at block
 -- 1, profile 1 at block 4 (`start_of`); post 200 of profile 0 stands in its block 1 (`post_block`), block 2 of the text, at byte 1 + 6 × 54 = 325 (`post_byte`).
+use Rattle.std.specs.Prelude.{None, Option, Some}
 use Rattle.std.specs.Prelude.{List, [], ◌∷◌, map, ℕ, ◌*◌, ◌/◌, zero, suc, ◌+◌, ◌-◌, min, ◌%◌, cond, Bool, ltb, leb, ℤ}
 use Rattle.laws.specs.Lists.{below, joined}
 use Rattle.laws.specs.Sign.{◌and◌, same_z}
 use Rattle.number.specs.Integer.{integer}
-use Rattle.lattice.specs.declared.Place.{Place}
-use Rattle.lattice.specs.declared.Place.TheVariants.{On, Off}
 use Rattle.lattice.specs.Lattice.{lattice_of, place_of}
 use Rattle.field.specs.Field.{stretch}
 use Rattle.frame.specs.declared.Header.{Header}
@@ -99,15 +98,15 @@ filled_posts (p ∷ ps) = cond (same_z p void_post) 0 1 + filled_posts ps
 
 -- ---- the lattice
 
-abbrev pub number_on : Place → ℕ
-number_on (On i) = i
-number_on Off = 0
+abbrev pub number_on : Option ℕ → ℕ
+number_on (Some i) = i
+number_on None = 0
 
-abbrev pub column_place_in : List ℕ → ℕ → Place
+abbrev pub column_place_in : List ℕ → ℕ → Option ℕ
 column_place_in text j =
     let h = header_in text in place_of (lattice_of (west h) (east h) h.xstep) h.xstep (head_in text j).x
 
-abbrev pub row_place_in : List ℕ → ℕ → Place
+abbrev pub row_place_in : List ℕ → ℕ → Option ℕ
 row_place_in text j =
     let h = header_in text in place_of (lattice_of (south h) (north h) h.ystep) h.ystep (head_in text j).y
 

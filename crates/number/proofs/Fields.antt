@@ -6,21 +6,20 @@ use borrow.Author.Tests.{lt-leb, le-leb}
 use lib.ListN.{length, drop, length-drop}
 use lib.Dec.{leb}
 use mathlib.Core.Bool.{true, false, not}
+use mathlib.Core.Logic.{◌⊎◌, inl, inr}
 use native.Mathlib.Omega.{arith}
 use Rattle.laws.proofs.Tests.{and-fails-second}
 use Rattle.number.specs.Integer.{of_length, refused, wrong_form, integer, integer_form, integer_value, read, unsigned_part}
 use Rattle.number.specs.IntegerStarts.{integer_byte}
-use Rattle.number.specs.declared.Reading.{Reading}
+use Rattle.number.specs.Reading.{Reading}
 use Rattle.number.specs.Bytes.{is_empty, is_blank, is_sign, is_digit, past_one, past_all, digits}
 use Rattle.number.specs.Steps.{Past, stopped_at}
 use Rattle.number.proofs.IntegerBytes.{integer-byte-found}
 use Rattle.number.proofs.Runs.{run_length}
 
-pub within_none : (most : ℕ) (s : List ℕ) (r : Reading) → length s < 1 → of_length most s r ≡ refused 1
-within_none most s r h = simp (lt-leb 1 (length s) h)
-
-pub within-long : (most : ℕ) (s : List ℕ) (r : Reading) → most < length s → of_length most s r ≡ refused 1
-within-long most s r h = simp (and-fails-second (leb 1 (length s)) (lt-leb (length s) most h))
+pub not-within : (most : ℕ) (s : List ℕ) (r : Reading) → (length s < 1) ⊎ ((1 ≤ length s) × (most < length s)) → of_length most s r ≡ refused 1
+not-within most s r (inl h) = simp (lt-leb 1 (length s) h)
+not-within most s r (inr h) = simp (and-fails-second (leb 1 (length s)) (lt-leb (length s) most h.1))
 
 pub within-good : (most : ℕ) (s : List ℕ) (r : Reading) → 1 ≤ length s → length s ≤ most → of_length most s r ≡ r
 within-good most s r h k = simp (le-leb 1 (length s) h, le-leb (length s) most k)

@@ -14,4 +14,5 @@ pub mod Grammar
 pub mod PutIn
 pub mod Limits
 pub mod ByteExamples
+pub mod Said
 pub mod OneAnswer

@@ -8,7 +8,7 @@ use lib.Seq.{drop-cons}
 use mathlib.Core.Bool.{Bool, true, false, cond}
 use native.Mathlib.Omega.{arith}
 use lib.Dec.{leb, ltb}
-use borrow.Author.Tests.{leb-true, lt-ltb, le-ltb}
+use borrow.Author.Tests.{leb-true, lt-ltb, le-ltb, ltb-true, ltb-false}
 use Rattle.laws.proofs.Tests.{clash, by-test}
 use Rattle.number.specs.Bytes.{starts, past_one, past_all, is_digit, digits}
 use Rattle.number.specs.Steps.{Past}
@@ -31,6 +31,10 @@ module _ (is : ℕ → Bool) (s : List ℕ) (i : ℕ) where
 
   pub starts_none : length s ≤ i → false ≡ starts is (drop i s)
   starts_none k = rw (drop_of_length-le s k)
+
+  pub starts-inside : starts is (drop i s) ≡ true → i < length s
+  starts-inside t =
+      by-test (ltb i (length s)) (ltb-true i (length s)) (λ e. clash (sym t ∙ sym (starts_none (ltb-false i (length s) e))))
 
   pub all-turn : i < length s → is (get_or s i 0) ≡ true → past_all is (drop (i + 1) s) ≡ past_all is (drop i s)
   all-turn h t = rw (drop_here s i h, t)

@@ -13,11 +13,13 @@ use Rattle.number.specs.Integer.{unsigned_part, wrong_form}
 use Rattle.number.specs.Grammar.{raised, sunk}
 use Rattle.number.specs.Real.{real, real_form, real_value, mantissa_digits, fraction_part, past_mantissa, power_form, power_minus, power_size, past_power, decimals, assumed}
 use Rattle.number.specs.RealStarts.{real_byte}
-use Rattle.number.specs.Steps.{Past, stopped_at, power_stop, MantissaAt, PowerAt, ScaledAt, Leads, none, kept_all, reading_of}
+use Rattle.number.specs.declared.Unread.{Unread}
+use Rattle.number.specs.Steps.{Past, stopped_at, power_stop, MantissaAt, PowerIs, PowerStops, ScaledAt, Leads, none, kept_all, reading_of}
 use Rattle.number.specs.declared.decimal.Kept.{Kept}
 use Rattle.number.specs.declared.decimal.Mantissa.{Mantissa}
 use Rattle.number.specs.declared.decimal.Power.{Power}
-use Rattle.number.specs.declared.decimal.Scaled.{Scaled}
+use Rattle.kinds.specs.declared.Kind.{Kind}
+use Rattle.std.specs.Prelude.{Result}
 use Rattle.number.proofs.Fields.{within-good, empty-none, empty-some}
 use Rattle.number.proofs.GrammarParts.{digits-every}
 use Rattle.number.proofs.RealBytes.{byte-no-digit, byte-no-power, byte-no-end}
@@ -48,22 +50,25 @@ module _ (s : List ℕ) (u : ℕ) (is : drop u s ≡ unsigned_part s) (m : Manti
   pub byte-at-digit : m.digits ≡ 0 → real_byte s ≡ stopped_at m.next (length s)
   byte-at-digit e = byte-no-digit s m.next (no_digit e) at-power
 
-  module _ (p : Power) (pa : PowerAt s m.next p) where
-    form-of-power : p.good ≡ power_form (past_mantissa (unsigned_part s))
-    form-of-power = pa.form ∙ ap power_form at-power
+  module _ (w : Unread) (pa : PowerStops s m.next w) where
+    no_power : power_form (past_mantissa (unsigned_part s)) ≡ false
+    no_power = ap power_form (sym at-power) ∙ pa.form
 
-    pub form-no-power : p.good ≡ false → real_form (unsigned_part s) ≡ false
-    form-no-power e =
+    pub form-no-power : real_form (unsigned_part s) ≡ false
+    form-no-power =
         and-fails-second (not (is_empty (mantissa_digits (unsigned_part s))))
-        (and-fails-first (is_empty (past_all is_blank (past_power (past_mantissa (unsigned_part s))))) (sym form-of-power ∙ e))
+        (and-fails-first (is_empty (past_all is_blank (past_power (past_mantissa (unsigned_part s))))) no_power)
 
-    pub byte-at-power : (m.digits ≡ 0 → ⊥) → p.good ≡ false → real_byte s ≡ stopped_at p.next (length s)
-    byte-at-power d e =
-        byte-no-power s p.next (some-digit d) (sym form-of-power ∙ e) ((pa.stops e).is ∙ ap power_stop at-power)
+    pub byte-at-power : (m.digits ≡ 0 → ⊥) → real_byte s ≡ stopped_at pa.stop (length s)
+    byte-at-power d = byte-no-power s pa.stop (some-digit d) no_power (pa.past.is ∙ ap power_stop at-power)
 
-    module _ (good : p.good ≡ true) (end : ℕ) (rest : Past (past_all is_blank) s p.next end) where
+  module _ (p : Power) (pa : PowerIs s m.next p) where
+    form-of-power : power_form (past_mantissa (unsigned_part s)) ≡ true
+    form-of-power = ap power_form (sym at-power) ∙ pa.form
+
+    module _ (end : ℕ) (rest : Past (past_all is_blank) s p.next end) where
       at-end : drop end s ≡ past_all is_blank (past_power (past_mantissa (unsigned_part s)))
-      at-end = rest.is ∙ ap (past_all is_blank) ((pa.is good).past.is ∙ ap past_power at-power)
+      at-end = rest.is ∙ ap (past_all is_blank) (pa.past.is ∙ ap past_power at-power)
 
       pub form-no-end : end < length s → real_form (unsigned_part s) ≡ false
       form-no-end l =
@@ -74,15 +79,14 @@ module _ (s : List ℕ) (u : ℕ) (is : drop u s ≡ unsigned_part s) (m : Manti
           (and-fails-second (power_form (past_mantissa (unsigned_part s))) e)
 
       pub byte-at-end : (m.digits ≡ 0 → ⊥) → real_byte s ≡ stopped_at end (length s)
-      byte-at-end d = byte-no-end s end (some-digit d) (sym form-of-power ∙ good) at-end
+      byte-at-end d = byte-no-end s end (some-digit d) form-of-power at-end
 
       pub form-real : (m.digits ≡ 0 → ⊥) → length s ≤ end → real_form (unsigned_part s) ≡ true
       form-real d l =
           let e : is_empty (past_all is_blank (past_power (past_mantissa (unsigned_part s)))) ≡ true =
           ap is_empty (sym at-end) ∙ empty-none (drop end s) (omega (arith, length-drop end s))
           in
-          let w : power_form (past_mantissa (unsigned_part s)) ≡ true = sym form-of-power ∙ good in
-          rw (some-digit d, w, e)
+          rw (some-digit d, form-of-power, e)
 
       kept-leads : Leads (number 0 (mantissa_digits (unsigned_part s))) m.kept
       kept-leads =
@@ -93,23 +97,23 @@ module _ (s : List ℕ) (u : ℕ) (is : drop u s ≡ unsigned_part s) (m : Manti
           leads-none)
 
       size_is : p.size ≡ power_size (past_mantissa (unsigned_part s))
-      size_is = (pa.is good).size ∙ ap power_size at-power
+      size_is = pa.size ∙ ap power_size at-power
 
       minus_is : p.minus ≡ power_minus (past_mantissa (unsigned_part s))
-      minus_is = (pa.is good).minus ∙ ap power_minus at-power
+      minus_is = pa.minus ∙ ap power_minus at-power
 
       -- the digits behind the point, as the code has them
       module _ (places : ℕ) (placed : places ≡ cond (ltb m.whole m.point) (m.next - m.point) (assumed (length s))) where
         places_is : places ≡ decimals (length s) (unsigned_part s)
         places_is = placed ∙ rw (ma.pointed, ma.standing, is)
 
-        pub value-is : (r : Scaled)
+        pub value-is : (r : Result ℕ Kind)
             → ScaledAt m.kept (9 + raised p.minus p.size) (places + sunk p.minus p.size) r → (minus : Bool)
             → real_value minus (length s) (unsigned_part s) ≡ reading_of minus r
         value-is r sc minus = rw (← minus_is, ← size_is, ← places_is) (sc.is _ kept-leads minus)
 
 -- what the code scales by, on either side of its test of the exponent's sign
-module _ (k : Kept) (places size : ℕ) (b : Bool) (r : Scaled) where
+module _ (k : Kept) (places size : ℕ) (b : Bool) (r : Result ℕ Kind) where
   pub scaled-lowered : b ≡ true → ScaledAt k 9 (places + size) r → ScaledAt k (9 + raised b size) (places + sunk b size) r
   scaled-lowered e sc = rw e sc
 

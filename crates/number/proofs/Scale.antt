@@ -23,7 +23,9 @@ use Rattle.number.specs.declared.decimal.Kept.{Kept}
 use Rattle.number.specs.Bytes.{is_digit, number}
 use Rattle.number.specs.Integer.{read, refused}
 use Rattle.number.specs.Real.{billionths}
-use Rattle.number.specs.declared.decimal.Scaled.TheVariants.{Exact, Refused}
+use Rattle.std.specs.Prelude.{Result, Ok, Err}
+use Rattle.kinds.specs.declared.Kind.{Kind}
+use Rattle.kinds.specs.declared.Kind.TheVariants.{Range, Fine}
 use Rattle.number.proofs.Places.{digit-range}
 
 pub leads-none : Leads 0 none
@@ -374,25 +376,28 @@ stays head d h k =
 pub too-deep : (head d : ℕ) → 0 < head → head < 10 ^ 15 → 15 ≤ d → head % 10 ^ d ≡ 0 → ⊥
 too-deep head d p h k e = omega (arith, mod-eq_of_lt (lt_of_lt_of_le h (ten-up k)))
 
-pub up_small : (head : ℕ) (more : Bool) (d n : ℕ) → up_of head more d ≡ Exact n → n < 10 ^ 18
+abbrev Same : Result ℕ Kind → Result ℕ Kind → Type 0
+Same a b = a ≡ b
+
+pub up_small : (head : ℕ) (more : Bool) (d n : ℕ) → up_of head more d ≡ Ok n → n < 10 ^ 18
 up_small head more d n e = go (leb (10 ^ 18) (head * 10 ^ d)) refl more refl
   where
     go : (b : Bool) → leb (10 ^ 18) (head * 10 ^ d) ≡ b → (c : Bool) → more ≡ c → n < 10 ^ 18
-    go true t c f = let q : Refused 7 ≡ Exact n = rw t at e in let z : ◌≡◌ {A = ℕ} 0 1 = cc in absurd (omega arith)
-    go false t true f = let q : Refused 8 ≡ Exact n = rw (t, f) at e in let z : ◌≡◌ {A = ℕ} 0 1 = cc in absurd (omega arith)
+    go true t c f = let q : Same (Err Range) (Ok n) = rw t at e in let z : ◌≡◌ {A = ℕ} 0 1 = cc in absurd (omega arith)
+    go false t true f = let q : Same (Err Fine) (Ok n) = rw (t, f) at e in let z : ◌≡◌ {A = ℕ} 0 1 = cc in absurd (omega arith)
     go false t false f =
-        let q : Exact (head * 10 ^ d) ≡ Exact n = rw (t, f) at e in
+        let q : Same (Ok (head * 10 ^ d)) (Ok n) = rw (t, f) at e in
         let z : head * 10 ^ d ≡ n = cc in
         omega (arith, leb-false (10 ^ 18) (head * 10 ^ d) t)
 
-pub down-small : (head : ℕ) (more : Bool) (d n : ℕ) → head < 10 ^ 15 → down_of head more d ≡ Exact n → n < 10 ^ 18
+pub down-small : (head : ℕ) (more : Bool) (d n : ℕ) → head < 10 ^ 15 → down_of head more d ≡ Ok n → n < 10 ^ 18
 down-small head more d n h e = go more refl (eqb (head % 10 ^ d) 0) refl
   where
     go : (c : Bool) → more ≡ c → (b : Bool) → eqb (head % 10 ^ d) 0 ≡ b → n < 10 ^ 18
-    go true f b t = let q : Refused 8 ≡ Exact n = rw f at e in let z : ◌≡◌ {A = ℕ} 0 1 = cc in absurd (omega arith)
-    go false f false t = let q : Refused 8 ≡ Exact n = rw (f, t) at e in let z : ◌≡◌ {A = ℕ} 0 1 = cc in absurd (omega arith)
+    go true f b t = let q : Same (Err Fine) (Ok n) = rw f at e in let z : ◌≡◌ {A = ℕ} 0 1 = cc in absurd (omega arith)
+    go false f false t = let q : Same (Err Fine) (Ok n) = rw (f, t) at e in let z : ◌≡◌ {A = ℕ} 0 1 = cc in absurd (omega arith)
     go false f true t =
-        let q : Exact (head / 10 ^ d) ≡ Exact n = rw (f, t) at e in
+        let q : Same (Ok (head / 10 ^ d)) (Ok n) = rw (f, t) at e in
         let z : head / 10 ^ d ≡ n = cc in
         omega (arith, div-le_self head (10 ^ d))
 

@@ -6,3 +6,4 @@ pub mod Real
 pub mod RealStarts
 pub mod Steps
 pub mod Tens
+pub mod Reading

@@ -1,6 +1,6 @@
 -- How the code walks a field: what its private functions answer. No paper's sentence is stated here; the public promises cite
 -- `integer` and `real` alone.
-use Rattle.std.specs.Prelude.{List, [], ◌∷◌, ◌≡◌, ℕ, ◌≤◌, ◌^◌, ◌<◌, ◌+◌, ◌*◌, ◌-◌, ◌/◌, ◌%◌, length, drop, true, cond, false, not, Bool, ltb, eqb, leb}
+use Rattle.std.specs.Prelude.{List, [], ◌∷◌, ◌≡◌, ℕ, ◌≤◌, ◌^◌, ◌<◌, ◌+◌, ◌*◌, ◌-◌, ◌/◌, ◌%◌, length, drop, true, cond, false, not, Bool, ltb, eqb, leb, Result, Ok, Err}
 use Rattle.laws.specs.Sign.{signed}
 use Rattle.number.specs.Bytes.{is_digit, is_sign, is_letter, is_empty, past_one, past_all, digits, number}
 use Rattle.number.specs.declared.walk.Whole.{Whole}
@@ -9,10 +9,12 @@ use Rattle.number.specs.declared.decimal.Run.{Run}
 use Rattle.number.specs.declared.decimal.Mantissa.{Mantissa}
 use Rattle.number.specs.Real.{mantissa_digits, past_mantissa, fraction_part, has_point, power, past_power, power_minus, power_size, power_form, billionths}
 use Rattle.number.specs.declared.decimal.Power.{Power}
-use Rattle.number.specs.declared.decimal.Scaled.{Scaled}
-use Rattle.number.specs.declared.decimal.Scaled.TheVariants.{Exact, Refused}
-use Rattle.number.specs.declared.Reading.{Reading}
-use Rattle.number.specs.Integer.{read, refused}
+use Rattle.kinds.specs.declared.Kind.{Kind}
+use Rattle.kinds.specs.declared.Kind.TheVariants.{Range, Fine}
+use Rattle.kinds.specs.Kinds.{number_of}
+use Rattle.number.specs.declared.Unread.{Unread}
+use Rattle.number.specs.Reading.{Reading, said}
+use Rattle.number.specs.Integer.{read, refused, wrong_form}
 
 -- r is the place past what `after` passes of the text from `from` on
 pub record Past (after : List ℕ → List ℕ) (s : List ℕ) (from r : ℕ) : Type 0 where
@@ -62,6 +64,7 @@ pub record MantissaAt (s : List ℕ) (from : ℕ) (m : Mantissa) : Type 0 where
 
 -- what a power of ten that has its form says
 pub record PowerIs (s : List ℕ) (from : ℕ) (p : Power) : Type 0 where
+  pub form : power_form (drop from s) ≡ true
   pub past : Past past_power s from p.next
   pub minus : p.minus ≡ power_minus (drop from s)
   pub size : p.size ≡ power_size (drop from s)
@@ -71,13 +74,15 @@ pub record PowerIs (s : List ℕ) (from : ℕ) (p : Power) : Type 0 where
 abbrev pub power_stop : List ℕ → List ℕ
 power_stop x = cond (is_empty (power x)) (past_one is_sign (past_one is_letter x)) (drop 2 (past_one is_sign (past_one is_letter x)))
 
-abbrev pub no_power : ℕ → Power
-no_power next = record { good = false; next = next; minus = false; size = 0 }
+pub record PowerStops (s : List ℕ) (from : ℕ) (u : Unread) : Type 0 where
+  pub form : power_form (drop from s) ≡ false
+  pub stop : ℕ
+  pub past : Past power_stop s from stop
+  pub told : said (Err u) ≡ wrong_form (stopped_at stop (length s))
 
-pub record PowerAt (s : List ℕ) (from : ℕ) (p : Power) : Type 0 where
-  pub form : p.good ≡ power_form (drop from s)
-  pub is : p.good ≡ true → PowerIs s from p
-  pub stops : p.good ≡ false → Past power_stop s from p.next
+abbrev pub PowerAt : List ℕ → ℕ → Result Power Unread → Type 0
+PowerAt s from (Ok p) = PowerIs s from p
+PowerAt s from (Err u) = PowerStops s from u
 
 -- the kept digits are those of m
 pub record Leads (m : ℕ) (k : Kept) : Type 0 where
@@ -88,19 +93,20 @@ pub record Leads (m : ℕ) (k : Kept) : Type 0 where
   pub small : k.head < 10 ^ 15
   pub full : 0 < k.dropped → 10 ^ 14 ≤ k.head
 
-abbrev pub reading_of : Bool → Scaled → Reading
-reading_of minus (Exact n) = read (signed minus n)
-reading_of minus (Refused k) = refused k
+-- a value in billionths, or the kind of its refusal
+abbrev pub reading_of : Bool → Result ℕ Kind → Reading
+reading_of minus (Ok n) = read (signed minus n)
+reading_of minus (Err k) = refused (number_of k)
 
 -- the value of every mantissa with these digits
-pub record ScaledAt (k : Kept) (u d : ℕ) (r : Scaled) : Type 0 where
+pub record ScaledAt (k : Kept) (u d : ℕ) (r : Result ℕ Kind) : Type 0 where
   pub is : (m : ℕ) → Leads m k → (minus : Bool) → billionths minus m u d ≡ reading_of minus r
-  pub small : (n : ℕ) → r ≡ Exact n → n < 10 ^ 18
+  pub small : (n : ℕ) → r ≡ Ok n → n < 10 ^ 18
 
 -- head × 10 ^ d, with digits after it not all zero where `more` is marked
-abbrev pub up_of : ℕ → Bool → ℕ → Scaled
-up_of head more d = cond (leb (10 ^ 18) (head * 10 ^ d)) (Refused 7) (cond more (Refused 8) (Exact (head * 10 ^ d)))
+abbrev pub up_of : ℕ → Bool → ℕ → Result ℕ Kind
+up_of head more d = cond (leb (10 ^ 18) (head * 10 ^ d)) (Err Range) (cond more (Err Fine) (Ok (head * 10 ^ d)))
 
 -- head / 10 ^ d, likewise
-abbrev pub down_of : ℕ → Bool → ℕ → Scaled
-down_of head more d = cond more (Refused 8) (cond (eqb (head % 10 ^ d) 0) (Exact (head / 10 ^ d)) (Refused 8))
+abbrev pub down_of : ℕ → Bool → ℕ → Result ℕ Kind
+down_of head more d = cond more (Err Fine) (cond (eqb (head % 10 ^ d) 0) (Ok (head / 10 ^ d)) (Err Fine))

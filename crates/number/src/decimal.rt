@@ -1,11 +1,12 @@
 // A real's mantissa, power of ten and value, without a number wider than 64 bits: the first 15 digits that count are kept,
 // later ones are counted and marked if one is not zero.
-ghost use Rattle.std.specs.Prelude.{◌≡◌, ◌+◌, ◌≤◌, ◌<◌, ◌^◌, length, cond};
-ghost use Rattle.number.specs.Bytes.{is_point, is_letter, past_one};
+ghost use Rattle.std.specs.Prelude.{◌≡◌, ◌+◌, ◌≤◌, ◌<◌, ◌^◌, length, drop, cond};
+ghost use Rattle.number.specs.Bytes.{is_point, is_letter, starts, past_one};
 ghost use Rattle.number.specs.Real.{assumed};
 ghost use Rattle.number.specs.Steps.{Past, RunAt, MantissaAt, PowerAt, ScaledAt, kept_one, up_of, down_of};
 
-use crate::walk;
+use crate::{Unread, walk, wrong_form};
+use kinds::Kind;
 
 // The digits of a mantissa so far: the number of the first 15 that count, how many came after, and whether one of those is not zero.
 #[derive(Drop)]
@@ -31,25 +32,20 @@ pub(crate) struct Mantissa {
     pub kept: Kept,
 }
 
-// A power of ten; where it has not its form, `next` is the place at which no power goes on.
+// A power of ten, and the place past it.
 #[derive(Drop)]
 pub(crate) struct Power {
-    pub good: bool,
     pub next: usize,
     pub minus: bool,
     pub size: usize,
 }
 
-// Document 01's kinds of a value that a real field cannot hold.
-const TOO_LARGE: u32 = 7;
-
-const TOO_FINE: u32 = 8;
-
-// A value in billionths, or the kind of its refusal.
-#[derive(Drop)]
-pub(crate) enum Scaled {
-    Exact(u64),
-    Refused(u32),
+impl Kept {
+    pub const NONE: Kept = Kept {
+        head: 0,
+        dropped: 0,
+        more: false,
+    };
 }
 
 pub(crate) fn keep(k: Kept, d: u64) -> Kept
@@ -59,21 +55,13 @@ pub(crate) fn keep(k: Kept, d: u64) -> Kept
     if k.head < 100000000000000 {
         return Kept {
             head: k.head * 10 + d,
-            dropped: k.dropped,
-            more: k.more,
-        };
-    }
-    if d == 0 {
-        return Kept {
-            head: k.head,
-            dropped: k.dropped + 1,
-            more: k.more,
+            ..k
         };
     }
     Kept {
         head: k.head,
         dropped: k.dropped + 1,
-        more: true,
+        more: k.more || d != 0,
     }
 }
 
@@ -82,26 +70,24 @@ pub(crate) fn keep_digits(s: &[u8], from: usize, k: Kept) -> Run
     ensures { RunAt s.now from k result }
 {
     let mut kept = k;
-    let mut i = from;
-    while i < s.len() {
+    for i in from..s.len() {
         let c = s[i];
-        if !walk::is_digit(c) {
+        if !c.is_ascii_digit() {
             return Run { next: i, kept };
         }
-        kept = keep(kept, (c - 48) as u64);
-        i += 1;
+        kept = keep(kept, (c - b'0') as u64);
     }
-    Run { next: i, kept }
+    Run {
+        next: s.len(),
+        kept,
+    }
 }
 
 fn past_point(s: &[u8], from: usize) -> usize
     requires { from ≤ length s.now }
     ensures { Past (past_one is_point) s.now from result }
 {
-    if s.len() <= from {
-        return from;
-    }
-    if s[from] == 46 {
+    if s.get(from) == Some(&b'.') {
         return from + 1;
     }
     from
@@ -111,26 +97,15 @@ pub(crate) fn read_mantissa(s: &[u8], from: usize) -> Mantissa
     requires { (from ≤ length s.now) × (length s.now ≤ 24) }
     ensures { MantissaAt s.now from result }
 {
-    let a = keep_digits(
-        s,
-        from,
-        Kept {
-            head: 0,
-            dropped: 0,
-            more: false,
-        },
-    );
-    let whole = a.next;
-    let point = past_point(s, whole);
+    let a = keep_digits(s, from, Kept::NONE);
+    let point = past_point(s, a.next);
     let b = keep_digits(s, point, a.kept);
-    let next = b.next;
-    let kept = b.kept;
     Mantissa {
-        whole,
+        whole: a.next,
         point,
-        next,
-        digits: (whole - from) + (next - point),
-        kept,
+        next: b.next,
+        digits: (a.next - from) + (b.next - point),
+        kept: b.kept,
     }
 }
 
@@ -141,123 +116,85 @@ pub(crate) fn decimals(bytes: usize, pointed: bool, standing: usize) -> usize
     if pointed {
         return standing;
     }
-    if bytes == 12 {
-        return 6;
+    match bytes {
+        12 => 6,
+        7 => 4,
+        _ => 15,
     }
-    if bytes == 7 {
-        return 4;
-    }
-    15
 }
 
-fn is_letter(c: u8) -> bool
-    ensures { result ≡ is_letter c }
+fn letter_at(s: &[u8], from: usize) -> bool
+    ensures { result ≡ starts is_letter (drop from s.now) }
 {
-    if c == 68 {
-        return true;
-    }
-    c == 69
+    matches!(s.get(from), Some(b'D' | b'E'))
 }
 
-pub(crate) fn read_power(s: &[u8], from: usize) -> Power
+pub(crate) fn read_power(s: &[u8], from: usize) -> Result<Power, Unread>
     requires { (from ≤ length s.now) × (length s.now ≤ 24) }
     ensures { PowerAt s.now from result }
 {
-    let none = Power {
-        good: true,
-        next: from,
-        minus: false,
-        size: 0,
-    };
-    if s.len() <= from {
-        return none;
-    }
-    if !is_letter(s[from]) {
-        return none;
+    if !letter_at(s, from) {
+        return Ok(Power {
+            next: from,
+            minus: false,
+            size: 0,
+        });
     }
     let sign = from + 1;
     let first = walk::past_sign(s, sign);
-    let run = keep_digits(
-        s,
-        first,
-        Kept {
-            head: 0,
-            dropped: 0,
-            more: false,
-        },
-    );
-    let next = run.next;
-    let kept = run.kept;
-    if next < first + 1 {
-        return Power {
-            good: false,
-            next: first,
-            minus: false,
-            size: 0,
-        };
+    let run = keep_digits(s, first, Kept::NONE);
+    if run.next == first {
+        return Err(wrong_form(first, s.len()));
     }
-    if first + 2 < next {
-        return Power {
-            good: false,
-            next: first + 2,
-            minus: false,
-            size: 0,
-        };
+    if first + 2 < run.next {
+        return Err(wrong_form(first + 2, s.len()));
     }
-    Power {
-        good: true,
-        next,
+    Ok(Power {
+        next: run.next,
         minus: walk::minus_at(s, sign),
-        size: kept.head as usize,
-    }
+        size: run.kept.head as usize,
+    })
 }
 
-fn scale_up(head: u64, more: bool, d: usize) -> Scaled
+// Kept: the kept digits' head and mark by themselves, as `up_of` and `down_of` have them.
+fn scale_up(head: u64, more: bool, d: usize) -> Result<u64, Kind>
     requires { (0 < head) × (head < 10 ^ 15) }
     ensures { result ≡ up_of head more d }
 {
-    if 18 <= d {
-        return Scaled::Refused(TOO_LARGE);
-    }
-    if crate::ten_to(18 - d) <= head {
-        return Scaled::Refused(TOO_LARGE);
+    if 18 <= d || crate::ten_to(18 - d) <= head {
+        return Err(Kind::Range);
     }
     if more {
-        return Scaled::Refused(TOO_FINE);
+        return Err(Kind::Fine);
     }
-    Scaled::Exact(head * crate::ten_to(d))
+    Ok(head * crate::ten_to(d))
 }
 
-fn scale_down(head: u64, more: bool, d: usize) -> Scaled
+fn scale_down(head: u64, more: bool, d: usize) -> Result<u64, Kind>
     requires { (0 < head) × (head < 10 ^ 15) }
     ensures { result ≡ down_of head more d }
 {
-    if more {
-        return Scaled::Refused(TOO_FINE);
-    }
-    if 15 <= d {
-        return Scaled::Refused(TOO_FINE);
+    if more || 15 <= d {
+        return Err(Kind::Fine);
     }
     let power = crate::ten_to(d);
     if head % power != 0 {
-        return Scaled::Refused(TOO_FINE);
+        return Err(Kind::Fine);
     }
-    Scaled::Exact(head / power)
+    Ok(head / power)
 }
 
 // The kept digits times 10 ^ up / 10 ^ down, in billionths.
-pub(crate) fn scale(kept: Kept, up: usize, down: usize) -> Scaled
+pub(crate) fn scale(kept: Kept, up: usize, down: usize) -> Result<u64, Kind>
     requires { (kept.dropped ≤ 24) × ((kept.head < 10 ^ 15) × ((up ≤ 108) × (down ≤ 123))) }
     ensures { ScaledAt kept up down result }
 {
-    let head = kept.head;
-    let more = kept.more;
     let high = kept.dropped + up;
-    if head == 0 {
-        return Scaled::Exact(0);
+    if kept.head == 0 {
+        return Ok(0);
     }
     if down <= high {
-        return scale_up(head, more, high - down);
+        return scale_up(kept.head, kept.more, high - down);
     }
-    scale_down(head, more, down - high)
+    scale_down(kept.head, kept.more, down - high)
 }

@@ -3,60 +3,46 @@
 mod decimal;
 mod walk;
 
-ghost use Rattle.std.specs.Prelude.{◌≡◌, ℕ, ◌<◌, ◌≤◌, ◌^◌, nat_abs};
+ghost use Rattle.std.specs.Prelude.{◌≡◌, ℕ, ◌<◌, ◌≤◌, ◌^◌, ◌-◌, min, nat_abs, Ok, Err};
 ghost use Rattle.laws.specs.Sign.{signed};
-ghost use Rattle.number.specs.Integer.{integer, refused, wrong_form, says_minus};
+ghost use Rattle.number.specs.Integer.{integer, wrong_form, says_minus};
+ghost use Rattle.number.specs.Reading.{said, unread};
 ghost use Rattle.number.specs.Real.{real};
 ghost use Rattle.number.specs.Steps.{reading_of, stopped_at};
 ghost use Rattle.number.specs.Tens.{ten_to};
 
-use decimal::Scaled;
+use kinds::Kind;
 
-// Kind 0 is a good reading; any other kind is document 01's number of the refusal, with the value 0. For wrong form the byte of the field, counted
-// from 1, that first makes the form impossible; 0 for every other kind.
+// Why a text is no number. For wrong form the byte of the field, counted from 1, that first makes the form impossible; 0 for every other kind.
 #[derive(Clone, Copy)]
-pub struct Reading {
-    pub kind: u32,
-    pub value: i64,
+pub struct Unread {
+    pub kind: Kind,
     pub byte: u8,
 }
 
-// Document 01's kinds of a text that is no field.
-const WRONG_LENGTH: u32 = 1;
-
-const WRONG_FORM: u32 = 6;
-
-fn refuse(kind: u32) -> Reading
-    ensures { result ≡ refused kind }
-{
-    Reading {
-        kind,
-        value: 0,
-        byte: 0,
+impl Unread {
+    // A kind that is told at the field's first byte.
+    pub fn of(kind: Kind) -> Unread
+        ensures { result ≡ unread kind }
+    {
+        Unread { kind, byte: 0 }
     }
 }
 
 // No field goes on as this one does from `next` on, counted from 0; or it ends there, too soon, and its last byte is meant.
-fn wrong_form(next: usize, bytes: usize) -> Reading
+fn wrong_form(next: usize, bytes: usize) -> Unread
     requires { (next ≤ bytes) × (bytes ≤ 24) }
-    ensures { result ≡ wrong_form (stopped_at next bytes) }
+    ensures { said (Err result) ≡ wrong_form (stopped_at next bytes) }
 {
-    if next < bytes {
-        return Reading {
-            kind: WRONG_FORM,
-            value: 0,
-            byte: (next + 1) as u8,
-        };
-    }
-    Reading {
-        kind: WRONG_FORM,
-        value: 0,
-        byte: bytes as u8,
+    Unread {
+        kind: Kind::Form,
+        byte: bytes.min(next + 1) as u8,
     }
 }
 
 // A power of ten, for the reading here and the writing above; 0 past the greatest that they need. Arms and no array: an array is laid out on the
 // stack whenever one of its numbers is asked for.
+#[tactic(auto, unfolding(crate::specs::Tens::ten_to))]
 pub fn ten_to(k: usize) -> u64
     ensures { result ≡ ten_to k }
 {
@@ -84,49 +70,36 @@ pub fn ten_to(k: usize) -> u64
     }
 }
 
-// A number without its sign. Raised by one before it is turned, so that the least i64 has a size too.
+// A number without its sign.
 pub fn size_of(z: i64) -> u64
     ensures { result ≡ nat_abs z }
 {
-    if z < 0 {
-        return (-(z + 1)) as u64 + 1;
-    }
-    z as u64
+    z.unsigned_abs()
 }
 
-fn join(minus: bool, size: u64) -> i64
-    requires { size < 2 ^ 63 }
-    ensures { result ≡ signed minus size }
+// A number with its sign; a size that an i64 has no room for counts as the greatest that it has.
+pub fn signed(minus: bool, size: u64) -> i64
+    ensures { result ≡ signed minus (min size (2 ^ 63 - 1)) }
 {
-    if minus { -(size as i64) } else { size as i64 }
+    let z = size.min(i64::MAX as u64) as i64;
+    if minus { -z } else { z }
 }
 
 // The number of an integer field of 1 to 6 bytes; kinds 1 and 6. One walk finds the number or the very byte.
-pub fn read_integer(field: &[u8]) -> Reading
-    ensures { result ≡ integer field.now }
+pub fn read_integer(field: &[u8]) -> Result<i64, Unread>
+    ensures { said result ≡ integer field.now }
 {
     let n = field.len();
-    if n < 1 {
-        return refuse(WRONG_LENGTH);
-    }
-    if 6 < n {
-        return refuse(WRONG_LENGTH);
+    if n < 1 || 6 < n {
+        return Err(Unread::of(Kind::Length));
     }
     let t = walk::past_blanks(field, 0);
     let u = walk::past_sign(field, t);
     let w = walk::read_whole(field, u);
-    let next = w.next;
-    if next == u {
-        return wrong_form(next, n);
+    if w.next == u || w.next < n {
+        return Err(wrong_form(w.next, n));
     }
-    if next < n {
-        return wrong_form(next, n);
-    }
-    Reading {
-        kind: 0,
-        value: join(walk::minus_at(field, t), w.value),
-        byte: 0,
-    }
+    Ok(signed(walk::minus_at(field, t), u64::from(w.value)))
 }
 
 // Whether a field says minus, also before zero: a reading's value has lost that.
@@ -137,53 +110,41 @@ pub fn is_minus(field: &[u8]) -> bool
     walk::minus_at(field, t)
 }
 
-fn settle(minus: bool, s: Scaled) -> Reading
-    requires { (n : ℕ) → s ≡ Scaled.Exact n → n < 10 ^ 18 }
-    ensures { result ≡ reading_of minus s }
+fn settle(minus: bool, scaled: Result<u64, Kind>) -> Result<i64, Unread>
+    requires { (n : ℕ) → scaled ≡ Ok n → n < 10 ^ 18 }
+    ensures { said result ≡ reading_of minus scaled }
 {
-    match s {
-        Scaled::Exact(n) => Reading {
-            kind: 0,
-            value: join(minus, n),
-            byte: 0,
-        },
-        Scaled::Refused(k) => refuse(k),
+    match scaled {
+        Ok(n) => Ok(signed(minus, n)),
+        Err(kind) => Err(Unread::of(kind)),
     }
 }
 
 // The value of a real field of 1 to 24 bytes, in billionths; kinds 1, 6, 7 and 8.
-pub fn read_real(field: &[u8]) -> Reading
-    ensures { result ≡ real field.now }
+pub fn read_real(field: &[u8]) -> Result<i64, Unread>
+    ensures { said result ≡ real field.now }
 {
     let n = field.len();
-    if n < 1 {
-        return refuse(WRONG_LENGTH);
-    }
-    if 24 < n {
-        return refuse(WRONG_LENGTH);
+    if n < 1 || 24 < n {
+        return Err(Unread::of(Kind::Length));
     }
     let t = walk::past_blanks(field, 0);
     let u = walk::past_sign(field, t);
     let m = decimal::read_mantissa(field, u);
     let x = m.next;
     if m.digits == 0 {
-        return wrong_form(x, n);
+        return Err(wrong_form(x, n));
     }
-    let p = decimal::read_power(field, x);
-    let rest = p.next;
-    if !p.good {
-        return wrong_form(rest, n);
-    }
-    let end = walk::past_blanks(field, rest);
+    let p = decimal::read_power(field, x)?;
+    let end = walk::past_blanks(field, p.next);
     if end < n {
-        return wrong_form(end, n);
+        return Err(wrong_form(end, n));
     }
-    let kept = m.kept;
     let standing = x - m.point;
     let places = decimal::decimals(n, m.whole < m.point, standing);
     let minus = walk::minus_at(field, t);
     if p.minus {
-        return settle(minus, decimal::scale(kept, 9, places + p.size));
+        return settle(minus, decimal::scale(m.kept, 9, places + p.size));
     }
-    settle(minus, decimal::scale(kept, 9 + p.size, places))
+    settle(minus, decimal::scale(m.kept, 9 + p.size, places))
 }

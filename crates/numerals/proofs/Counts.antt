@@ -1,6 +1,6 @@
 -- How many digits a number is written with: the count from the top down, a step at a time, what it bounds, and the test for few of them.
 use mathlib.Core.Path.{◌≡◌, refl, sym, ◌∙◌, ap}
-use Prim.Native.Nat.{ℕ, zero, suc, ◌-◌, ◌^◌, ◌≤◌, ◌<◌, ◌+◌, ◌%◌}
+use Prim.Native.Nat.{ℕ, zero, suc, ◌-◌, ◌^◌, ◌≤◌, ◌<◌, ◌+◌, ◌%◌, min}
 use borrow.Author.Tests.{eq-eqb, ne_eqb, le-ltb, lt-ltb, ltb-true, ltb-false, eqb-true, eqb-false, leb-true, leb-false, le-leb, lt-leb}
 use native.Mathlib.Omega.{arith}
 use lib.Dec.{ltb, leb, eqb}
@@ -52,6 +52,16 @@ places-past k (suc d) n h =
     let l : k ≤ k + d = omega arith in
     let b : n < 10 ^ (k + suc d - 1) = rw e (omega (arith, ten-up l)) in
     places-go (k + suc d) n (omega arith) b ∙ ap (λ (j : ℕ). places j n) e ∙ places-past k d n h
+
+-- nor past the twenty that 64 bits have
+pub places-enough : (k n : ℕ) → n < 10 ^ 20 → places (min k 20) n ≡ places k n
+places-enough k n h =
+    by-test (leb k 20) (λ t. ap (λ (j : ℕ). places j n) (omega (arith, leb-true k 20 t))) (λ t. ap (λ (j : ℕ). places j n) (omega (arith, leb-false k 20 t)) ∙ past (leb-false k 20 t))
+  where
+    past : 20 < k → places 20 n ≡ places k n
+    past l =
+        let e : 20 + (k - 20) ≡ k = omega arith in
+        sym (places-past 20 (k - 20) n h) ∙ ap (λ (j : ℕ). places j n) e
 
 pub places-most : (k n : ℕ) → places k n ≤ k
 unfolding places

@@ -19,7 +19,7 @@ use Rattle.numerals.specs.Pieces.{Puts, GivenAt}
 use Rattle.numerals.proofs.Spelling.{spell-first, spell-length}
 use Rattle.numerals.proofs.Counts.{count-some, count-above, count-least, count_most}
 use Rattle.numerals.proofs.Spelled.{spell-number}
-use Rattle.numerals.proofs.Pieces.{nothing, puts}
+use Rattle.numerals.proofs.Pieces.{nothing, no_room, puts}
 
 -- the first of k digits, where the number reaches the last power of ten below them; 48 is the digit 0
 pub first_above : (k n : ℕ) → 0 < k → 10 ^ (k - 1) ≤ n → 48 < get_or (spell k n) 0 0
@@ -59,6 +59,10 @@ module _ (k n : ℕ) where
 
   pub no-digits : (lent : List ℕ) (at : ℕ) → fixed k n ≡ [] → GivenAt at (fixed k n) lent lent at
   no-digits lent at e = subst⁻¹ (λ (p : List ℕ). GivenAt at p lent lent at) e (nothing lent at)
+
+  pub digits-past : {lent : List ℕ} {at : ℕ} → k ≤ 20 → n < 10 ^ k → length lent < at + k → GivenAt at (fixed k n) lent lent at
+  digits-past {lent} {at} l h past =
+      subst⁻¹ (λ (p : List ℕ). GivenAt at p lent lent at) (fixed-is l h) (no_room (omega (arith, spell-length k n)))
 
   -- what a caller learns of digits that are enough, and where they have room
   pub digits-given : {lent after : List ℕ} {at r : ℕ} → k ≤ 20 → n < 10 ^ k → GivenAt at (fixed k n) lent after r

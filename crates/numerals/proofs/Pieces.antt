@@ -1,11 +1,11 @@
 -- Pieces of a text put one after another: none, one byte, two runs joined, and what a function that puts a piece promises of them.
 use mathlib.Core.List.{List, [], append-nil, ◌∷◌, ◌++◌, append_assoc}
 use mathlib.Core.Path.{refl, sym, ◌∙◌, ap, ◌≡◌}
-use Prim.Native.Nat.{ℕ, ◌+◌, ◌<◌, ◌-◌, ◌≤◌}
+use Prim.Native.Nat.{ℕ, ◌+◌, ◌<◌, ◌≤◌}
 use native.Mathlib.Nat.{add-zero}
 use lib.ListN.{take, length, set, length-set, length-append, drop, take-append-drop, length-drop}
 use native.Mathlib.Numerals.{add-one}
-use lib.Seq.{take-suc-set, take-length, paste, take_at, length-take-le}
+use lib.Seq.{take-suc-set, take_at, length-take-le}
 use native.Mathlib.Omega.{arith}
 use mathlib.Core.Bool.{Bool, cond, true, false}
 use borrow.Author.Tests.{lt-leb, le-leb, leb-true, leb-false}
@@ -27,12 +27,6 @@ joined {f} {g} {h} {p} {q} {at} {mid} {end} a b =
       place = omega (arith, a.place, b.place, length-append p q);
       text = b.text ∙ ap (λ (x : List ℕ). x ++ q) a.text ∙ append_assoc (take at f) p q;
     }
-
--- a text built from the start, as the part of the scratch that is lent
-pub front : {before piece after : List ℕ} {end : ℕ} → Puts before 0 piece after end → take (end - 0) after ≡ piece
-front {before} {piece} {after} {end} p =
-    let e : end - 0 ≡ end = omega arith in
-    ap (λ (k : ℕ). take k after) e ∙ p.text
 
 -- ---- what a function that puts a piece promises
 
@@ -72,16 +66,6 @@ nothing lent at = by-test (leb (at + 0) (length lent)) there past
 
     past : leb (at + 0) (length lent) ≡ false → GivenAt at [] lent lent at
     past t = no_room (leb-false (at + 0) (length lent) t)
-
--- a whole word, byte by byte
-pub word-whole : {lent word after : List ℕ} {at i : ℕ} → i ≡ length word → at + length word ≤ length lent
-    → after ≡ paste lent at word i → GivenAt at word lent after (at + i)
-word-whole {lent} {word} {after} {at} {i} e h w =
-    stands (ap (λ (k : ℕ). at + k) e) h
-    (w
-    ∙ append_assoc (take at lent) (take i word) (drop (at + i) lent)
-    ∙ ap (λ (k : ℕ). take at lent ++ (take k word ++ drop (at + k) lent)) e
-    ∙ ap (λ (x : List ℕ). take at lent ++ (x ++ drop (at + length word) lent)) (take-length word))
 
 -- where the piece fits, it stands
 pub puts : {at r : ℕ} {piece lent after : List ℕ} → GivenAt at piece lent after r → at + length piece ≤ length lent

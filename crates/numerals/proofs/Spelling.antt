@@ -56,34 +56,46 @@ behind-turn text before end d e =
     ∙ ap (λ (l : List ℕ). drop 1 l) e
     ∙ drop-drop 1 end before
 
--- digits half put: what stands in the text up to `end`, and the `left` digits of `rest` still to come
-pub record Spelling (before : List ℕ) (at k n : ℕ) (text : List ℕ) (end left rest : ℕ) : Type 0 where
-  pub span : end + left ≡ at + k
-  pub few : left ≤ 20
-  pub below : rest < 10 ^ left
+-- digits half put: what stands of the first `i`, and those of `rest` still to come
+pub record Spelling (before : List ℕ) (at k n : ℕ) (text : List ℕ) (i rest : ℕ) : Type 0 where
+  pub below : rest < 10 ^ (k - i)
   pub kept : length text ≡ length before
-  pub whole : take end text ++ spell left rest ≡ take at before ++ spell k n
-  pub behind : drop end text ≡ drop end before
+  pub whole : take (at + i) text ++ spell (k - i) rest ≡ take at before ++ spell k n
+  pub behind : drop (at + i) text ≡ drop (at + i) before
 
-module _ {before text : List ℕ} {at k n end left rest : ℕ} (s : Spelling before at k n text end left rest) where
-  pub turn : 0 < left → {power : ℕ} → power ≡ 10 ^ (left - 1) → at + k ≤ length before
-      → Spelling before at k n (set text end (48 + rest / power)) (end + 1) (left - 1) (rest % power)
+module _ {before text : List ℕ} {at k n i rest : ℕ} (s : Spelling before at k n text i rest) where
+  pub digit : i < k → {power : ℕ} → power ≡ 10 ^ (k - 1 - i) → rest / power < 10
+  digit p e =
+      let last : k - 1 - i ≡ k - i - 1 = omega arith in
+      rw (e, last) (digit-small (k - i) rest (omega arith) s.below)
+
+  pub turn : i < k → {power : ℕ} → power ≡ 10 ^ (k - 1 - i) → at + k ≤ length before
+      → Spelling before at k n (set text (at + i) (48 + rest / power)) (i + 1) (rest % power)
   turn p e room =
-      rw e (record {
-        span = omega (arith, s.span);
-        few = omega (arith, s.few);
-        below = mod-lt rest (ten-pos (left - 1));
-        kept = length-set text end (48 + rest / 10 ^ (left - 1)) ∙ s.kept;
-        whole = digit-turn text end left rest (omega (arith, s.span, s.kept)) p ∙ s.whole;
-        behind = behind-turn text before end (48 + rest / 10 ^ (left - 1)) s.behind;
+      let end = at + i in
+      let left = k - i in
+      let digit = 48 + rest / 10 ^ (left - 1) in
+      let further : at + (i + 1) ≡ end + 1 = omega arith in
+      let fewer : k - (i + 1) ≡ left - 1 = omega arith in
+      let last : k - 1 - i ≡ left - 1 = omega arith in
+      rw (e, last) (record {
+        below = rw fewer (mod-lt rest (ten-pos (left - 1)));
+        kept = length-set text end digit ∙ s.kept;
+        whole = rw (fewer, further) (digit-turn text end left rest (omega (arith, s.kept)) (omega arith) ∙ s.whole);
+        behind = rw further (behind-turn text before end digit s.behind);
       })
 
-  pub done : left ≡ 0 → at + k ≤ length before → GivenAt at (spell k n) before text end
+  pub done : i ≡ k → at + k ≤ length before → GivenAt at (spell k n) before text (at + k)
   done e room =
+      let none : k - i ≡ 0 = omega arith in
+      let end : at + i ≡ at + k = omega arith in
       stands-whole
       (record {
         kept = s.kept;
-        place = omega (arith, s.span, spell-length k n);
-        text = sym (append-nil (take end text)) ∙ ap (λ (x : List ℕ). take end text ++ x) (sym (rw e (spell-end rest))) ∙ s.whole;
+        place = omega (arith, spell-length k n);
+        text =
+            sym (append-nil (take (at + k) text))
+            ∙ ap (λ (x : List ℕ). take (at + k) text ++ x) (sym (spell-end rest))
+            ∙ (rw (end, none) at s.whole);
       })
-      (omega (arith, spell-length k n)) s.behind
+      (omega (arith, spell-length k n)) (rw end at s.behind)

@@ -5,54 +5,40 @@ ghost use Rattle.laws.specs.Digits.{places, short};
 ghost use Rattle.numerals.specs.Numerals.{spell, fixed, count, numeral, minus};
 ghost use Rattle.numerals.specs.Pieces.{GivenAt};
 
-const MINUS: u8 = 45;
-
-const ZERO: u8 = 48;
-
 // The fields need no more than 10 ^ 18, a number of 64 bits one power more.
 fn power_of(k: usize) -> u64
     requires { k < 20 }
     ensures { result ≡ 10 ^ k }
 {
     if k == 19 {
-        return 10000000000000000000;
+        10_000_000_000_000_000_000
+    } else {
+        number::ten_to(k)
     }
-    number::ten_to(k)
 }
 
 // Whether k digits are enough.
 pub fn is_below(n: u64, k: usize) -> bool
     ensures { result ≡ ltb n (10 ^ k) }
 {
-    if 19 < k {
-        return true;
-    }
-    n < power_of(k)
+    19 < k || n < power_of(k)
 }
 
 // Tested by a difference, since the sum of a place and a length may pass the greatest usize.
 fn has_room(at: usize, many: usize, lent: usize) -> bool
     ensures { result ≡ leb (at + many) lent }
 {
-    if lent < many {
-        return false;
-    }
-    if lent - many < at {
-        return false;
-    }
-    true
+    many <= lent && at <= lent - many
 }
 
 fn places_of(k: usize, n: u64) -> usize
     requires { k ≤ 20 }
     ensures { result ≡ places k n }
 {
-    let mut i = k;
-    while 0 < i {
-        if power_of(i - 1) <= n {
-            return i;
+    for i in (0..k).rev() {
+        if power_of(i) <= n {
+            return i + 1;
         }
-        i -= 1;
     }
     0
 }
@@ -62,12 +48,10 @@ pub fn count_of(none: usize, k: usize, n: u64) -> usize
     ensures { result ≡ count none k n }
 {
     if n == 0 {
-        return none;
+        none
+    } else {
+        places_of(k.min(20), n)
     }
-    if 20 < k {
-        return places_of(20, n);
-    }
-    places_of(k, n)
 }
 
 // Whether the digits past the first few are all zero. Most numbers have none: a delivery asks this of every real of its session.
@@ -78,12 +62,10 @@ pub fn is_short(digits: usize, size: u64) -> bool
         return true;
     }
     let count = places_of(18, size);
-    if count <= digits {
-        return true;
-    }
-    size % number::ten_to(count - digits) == 0
+    count <= digits || size % number::ten_to(count - digits) == 0
 }
 
+// Kept: a text and a place in it are two parameters in all that put a piece, since `GivenAt` promises that of each to its callers.
 pub fn put_byte(text: &mut [u8], at: usize, byte: u8) -> usize
     ensures { GivenAt at (byte ∷ []) text.old text.new result }
 {
@@ -97,54 +79,39 @@ pub fn put_byte(text: &mut [u8], at: usize, byte: u8) -> usize
 pub fn put_word(text: &mut [u8], at: usize, word: &[u8]) -> usize
     ensures { GivenAt at word.now text.old text.new result }
 {
-    if !has_room(at, word.len(), text.len()) {
+    let many = word.len();
+    if !has_room(at, many, text.len()) {
         return at;
     }
-    let mut i = 0;
-    while i < word.len() {
-        text[at + i] = word[i];
-        i += 1;
-    }
-    at + i
+    let end = at + many;
+    text[at..end].copy_from_slice(word);
+    end
 }
 
 pub fn put_minus(text: &mut [u8], at: usize, z: i64) -> usize
     ensures { GivenAt at (minus z) text.old text.new result }
 {
-    if z < 0 {
-        return put_byte(text, at, MINUS);
-    }
-    at
+    if z < 0 { put_byte(text, at, b'-') } else { at }
 }
 
 fn put_spelled(text: &mut [u8], at: usize, k: usize, n: u64) -> usize
     requires { (at + k ≤ length text.old) × ((k ≤ 20) × (n < 10 ^ k)) }
     ensures { GivenAt at (spell k n) text.old text.new result }
 {
-    let mut end = at;
-    let mut left = k;
     let mut rest = n;
-    while 0 < left {
-        left -= 1;
-        let power = power_of(left);
-        text[end] = ZERO + (rest / power) as u8;
-        rest = rest % power;
-        end += 1;
+    for i in 0..k {
+        let power = power_of(k - 1 - i);
+        text[at + i] = b'0' + (rest / power) as u8;
+        rest %= power;
     }
-    end
+    at + k
 }
 
 // So many digits, zeros before them; none where they are not enough, or more than 20.
 pub fn put_digits(text: &mut [u8], at: usize, k: usize, n: u64) -> usize
     ensures { GivenAt at (fixed k n) text.old text.new result }
 {
-    if 20 < k {
-        return at;
-    }
-    if !is_below(n, k) {
-        return at;
-    }
-    if !has_room(at, k, text.len()) {
+    if 20 < k || !is_below(n, k) || !has_room(at, k, text.len()) {
         return at;
     }
     put_spelled(text, at, k, n)

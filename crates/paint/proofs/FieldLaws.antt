@@ -1,8 +1,8 @@
 -- Fields painted one behind the other from a byte on, posts among them, and blanks to the end. Each is a step on lists.
 use mathlib.Core.List.{List, [], ◌∷◌, ◌++◌, append_assoc}
 use mathlib.Core.Path.{◌≡◌, refl, subst, sym, ◌∙◌, ap, ap₂}
-use Prim.Native.Nat.{ℕ, ◌≤◌, ◌+◌, ◌*◌, ◌<◌, zero, suc, ◌-◌}
-use lib.ListN.{length, take, drop, length-append, length-drop, take-append-drop, get_or, replicate, set}
+use Prim.Native.Nat.{ℕ, ◌≤◌, ◌+◌, ◌*◌, ◌<◌}
+use lib.ListN.{length, take, drop, length-append, length-drop, take-append-drop, get_or}
 use lib.Seq.{length-take-le, take-suc, take_all}
 use native.Mathlib.Omega.{arith}
 use mathlib.Core.Bool.{Bool, cond, true, false}
@@ -11,8 +11,6 @@ use native.Mathlib.Nat.{mul-suc}
 use native.Mathlib.Numerals.{add-one}
 use lib.Dec.{leb}
 use Rattle.laws.proofs.Lists.{map-append}
-use Rattle.numerals.specs.Pieces.{Puts}
-use Rattle.numerals.proofs.Pieces.{put_one, joined, put-none}
 use Rattle.written.specs.Painted.{Field, wide, over, painted, widths}
 use Rattle.written.proofs.PaintedFits.{painted-length, widths-append, take-seam, drop-seam, painted-append}
 use Rattle.paint.specs.Fields.{post_fields, post_field, blank_from, filled}
@@ -32,10 +30,6 @@ module _ {before after : List ℕ} {at end : ℕ} {fs : List Field} (p : Paints 
       ap length p.is
       ∙ length-append (take at before) (painted fs (drop at before))
       ∙ omega (arith, front_long, painted-length fs (drop at before) room-left, length-drop at before, p.place, p.room)
-
-  -- what comes next has room
-  pub next-room : (k : ℕ) → at + widths fs + k ≤ length before → end + k ≤ length after
-  next-room k h = omega (arith, p.place, paints-length, h)
 
 pub named : {before after : List ℕ} {fs gs : List Field} {at end : ℕ} → fs ≡ gs → Paints before at fs after end
     → Paints before at gs after end
@@ -106,33 +100,6 @@ post-painted z cells i d h p q =
 pub posts-all : {before block : List ℕ} {at end : ℕ} (z : ℕ) (cells : List ℤ) (i : ℕ) → i ≡ length cells
     → Paints before at (post_fields z (take i cells)) block end → Paints before at (post_fields z cells) block end
 posts-all z cells i e p = named (ap (post_fields z) (take_all i cells (omega arith))) p
-
--- ---- blanks
-
-abbrev pub blanks : ℕ → List ℕ
-blanks n = replicate n 32
-
-blanks-last : (n : ℕ) → blanks n ++ (32 ∷ []) ≡ blanks (suc n)
-blanks-last zero = refl
-blanks-last (suc n) = ap (λ (l : List ℕ). 32 ∷ l) (blanks-last n)
-
--- one more blank put
-pub blank-put : {before block : List ℕ} {at i : ℕ} → at ≤ i → i < length block → Puts before at (blanks (i - at)) block i
-    → Puts before at (blanks (i + 1 - at)) (set block i 32) (i + 1)
-blank-put {before} {block} {at} {i} h k p =
-    let e : i + 1 - at ≡ suc (i - at) = omega arith in
-    rw (e, ← blanks-last (i - at)) (joined p (put_one block i 32 k))
-
-pub blank_none : (l : List ℕ) (at : ℕ) → Puts l at (blanks (at - at)) l at
-blank_none l at =
-    let e : at - at ≡ 0 = omega arith in
-    rw e (put-none l at)
-
--- blanks up to the end are the whole block
-pub blank-all : {before block : List ℕ} {at i : ℕ} → i ≡ length before → Puts before at (blanks (i - at)) block i
-    → block ≡ blank_from at before
-blank-all {before} {block} {at} {i} e p =
-    sym (take_all i block (omega (arith, p.kept))) ∙ p.text ∙ ap (λ (n : ℕ). take at before ++ blanks (n - at)) e
 
 -- ---- a block for so many bytes
 

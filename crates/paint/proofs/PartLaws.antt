@@ -1,7 +1,7 @@
 -- The cells that a block lends: as many as there are, and no more than it has room for.
 use mathlib.Core.List.{List}
 use mathlib.Core.Path.{◌≡◌, sym, ◌∙◌, ap}
-use Prim.Native.Nat.{ℕ, min, ◌+◌, ◌*◌, ◌-◌, ◌<◌}
+use Prim.Native.Nat.{ℕ, min}
 use native.Mathlib.Omega.{arith}
 use borrow.Author.Tests.{leb-true, leb-false}
 use lib.Dec.{leb}
@@ -9,7 +9,6 @@ use lib.IntN.{ℤ}
 use lib.ListN.{length, take}
 use lib.Seq.{take_all}
 use Rattle.laws.proofs.Tests.{by-test}
-use Rattle.paint.specs.Parts.{BehindAsked}
 
 pub take-fewer : (most n : ℕ) (l : List ℤ) → n ≡ min (length l) most → take n l ≡ take most l
 take-fewer most n l e =
@@ -21,7 +20,3 @@ take-fewer most n l e =
     let h = leb-false (length l) most t in
     let m : n ≡ most = omega (arith, e, h) in
     ap (λ (k : ℕ). take k l) m)
-
--- a further block begins inside the profile
-pub behind-inside : {cells : List ℤ} {k : ℕ} → BehindAsked cells k → 146 + 170 * (k - 1) < length cells
-behind-inside a = omega (arith, a.within, a.some)

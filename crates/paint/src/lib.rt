@@ -9,8 +9,6 @@ ghost use Rattle.paint.specs.Parts.{BehindAsked, cells_behind, part_by, part_aft
 
 use columns::post_of;
 
-const BLANK: u8 = 32;
-
 // An integer in the six bytes lent for it; returns where the next field begins.
 fn put_whole(value: i64, at: usize, block: &mut [u8]) -> usize
     requires { at + 6 ≤ length block.old }
@@ -60,11 +58,8 @@ fn write_posts(z: u64, cells: &[i32], at: usize, block: &mut [u8]) -> usize
     ensures { Paints block.old at (post_fields z cells.now) block.new result }
 {
     let mut end = at;
-    let mut i = 0;
-    while i < cells.len() {
-        let post = post_of(z, cells[i]);
-        end = put_whole(post, end, block);
-        i += 1;
+    for &cell in cells {
+        end = put_whole(post_of(z, cell), end, block);
     }
     end
 }
@@ -74,27 +69,18 @@ fn blank_from(at: usize, block: &mut [u8])
     requires { at ≤ length block.old }
     ensures { block.new ≡ blank_from at block.old }
 {
-    let mut i = at;
-    while i < block.len() {
-        block[i] = BLANK;
-        i += 1;
-    }
+    block[at..].fill(b' ');
 }
 
 // So many posts behind the head's bytes; multiplied they might not fit a usize.
 fn has_room(bytes: usize, head: usize, posts: usize) -> bool
     ensures { result ≡ leb (head + 6 * posts) bytes }
 {
-    if bytes < head {
-        return false;
-    }
-    if (bytes - head) / 6 < posts {
-        return false;
-    }
-    true
+    head <= bytes && posts <= (bytes - head) / 6
 }
 
 // A profile's first block: its head, then "up to 146" posts. Too short a block stays as it was.
+// Kept: nine parameters, since docs/PROMISES.md states the promise by them.
 pub fn write_first(
     number: u32,
     posts: u32,
@@ -143,7 +129,7 @@ fn write_opening(stake: Stake, cells: &[i32], block: &mut [u8])
     ensures { block.new ≡ part_by stake cells.now 0 block.old }
 {
     let extremes = columns::extremes_of(cells);
-    let here = figures::fewer_of(cells.len() as u64, 146) as usize;
+    let here = cells.len().min(146);
     write_first(
         stake.number,
         cells.len() as u32,
@@ -163,20 +149,20 @@ fn write_behind(z: u64, cells: &[i32], k: u64, block: &mut [u8])
     ensures { block.new ≡ further_after z (cells_behind cells.now (k - 1)) block.old }
 {
     let from = 146 + 170 * (k as usize - 1);
-    let end = from + figures::fewer_of((cells.len() - from) as u64, 170) as usize;
+    let end = from + (cells.len() - from).min(170);
     write_further(z, &cells[from..end], block);
 }
 
 // Block k of a profile, counted from 0. One that it has not leaves the lent block as it was, and so do more cells than a sheet has rows.
+#[tactic(auto, unfolding(crate::specs::Parts::part_after))]
 pub fn write_part(stake: Stake, cells: &[i32], k: u64, block: &mut [u8])
     ensures { block.new ≡ part_after stake cells.now k block.old }
 {
-    if !figures::both(cells.len() <= 2048, k < columns::blocks_for(cells.len())) {
-        return;
+    if cells.len() <= 2048 && k < columns::blocks_for(cells.len()) {
+        if k == 0 {
+            write_opening(stake, cells, block);
+        } else {
+            write_behind(stake.z, cells, k, block);
+        }
     }
-    if k == 0 {
-        write_opening(stake, cells, block);
-        return;
-    }
-    write_behind(stake.z, cells, k, block);
 }

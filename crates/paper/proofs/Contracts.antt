@@ -6,6 +6,7 @@ use borrow.Fn.World.{ArgsD, ResD}
 use Rattle.delivery.specs.Deliver.{lend}
 use Rattle.meaning.specs.Deliveries.{Promised}
 use Rattle.returns.specs.Writers.{Wrote, WroteSheet}
+use Rattle.written.specs.Sending.{sent_told}
 use Rattle.arrivals.specs.Arrivals.{RunPromised}
 use Rattle.office.specs.DeskCalls.{OpenPromised, DeskPromised}
 use Rattle.office.specs.DeskArrivals.{DeskRunPromised}
@@ -43,12 +44,12 @@ deliver-run-promises κs a z e told = record { answers = told.0; fills = told.1 
 pub write-block-promises : (κs : Lfts 3) (a : ArgsD write_block.signature κs) (z : ResD write_block.signature κs) (e : AtExit write_block.ended κs)
     → write_block·reads.Learnt κs a z e
     → Wrote a.0.now a.1.0.now
-    record { number = a.1.1.0; lent = a.1.1.1.0.now; returned = z; left = e.1.1.1.0.now }
+    record { number = a.1.1.0; lent = a.1.1.1.0.now; returned = sent_told z; left = e.1.1.1.0.now }
 write-block-promises κs a z e told = record { answers = told.0; writes = told.1 }
 
 pub write-sheet-promises : (κs : Lfts 3) (a : ArgsD write_sheet.signature κs) (z : ResD write_sheet.signature κs) (e : AtExit write_sheet.ended κs)
     → write_sheet·reads.Learnt κs a z e
-    → WroteSheet a.0.now a.1.0.now record { lent = a.1.1.0.now; returned = z; left = e.1.1.0.now }
+    → WroteSheet a.0.now a.1.0.now record { lent = a.1.1.0.now; returned = sent_told z; left = e.1.1.0.now }
 write-sheet-promises κs a z e told = record { answers = told.0; writes = told.1 }
 
 pub dem-open-promises : (κs : Lfts 1) (a : ArgsD dem-open.signature κs) (z : ResD dem-open.signature κs) (e : AtExit dem-open.ended κs)

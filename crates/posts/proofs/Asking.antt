@@ -1,9 +1,9 @@
 -- What may be asked of a scan, as the code tests it; and what the public promise gives a caller that asked rightly.
 use mathlib.Core.Bool.{false, true}
 use mathlib.Core.Path.{ap₂, ◌≡◌, sym, ◌∙◌, refl, ap}
-use Prim.Native.Nat.{ℕ, ◌+◌, ◌*◌, ◌-◌, ◌≤◌, ◌<◌, zero, suc}
+use Prim.Native.Nat.{ℕ, ◌+◌, ◌*◌, ◌-◌, ◌≤◌, zero, suc}
 use native.Mathlib.Omega.{arith}
-use borrow.Author.Tests.{leb-true, leb-false, le-leb, lt-leb, eqb-true, eq-eqb, eqb-false}
+use borrow.Author.Tests.{leb-true, le-leb, eqb-true, eq-eqb, eqb-false}
 use lib.Dec.{leb, eqb}
 use lib.IntN.{ℤ, nat_abs}
 use mathlib.Core.List.{List}
@@ -11,7 +11,7 @@ use lib.ListN.{length, drop, take, length-append, length-drop}
 use lib.Seq.{take_at}
 use Rattle.laws.specs.Sign.{◌and◌}
 use Rattle.laws.specs.Texts.{every}
-use Rattle.laws.proofs.Tests.{and-fails-first, and-fails-second, by-test, and_first, and_second, and_both}
+use Rattle.laws.proofs.Tests.{by-test, and_first, and_second, and_both}
 use Rattle.number.specs.Bytes.{is_blank}
 use Rattle.number.specs.Integer.{integer}
 use Rattle.field.specs.Field.{fault, stretch}
@@ -20,19 +20,7 @@ use Rattle.ground.proofs.PostsRead.{fault-on, fault-none, posts-length}
 use Rattle.ground.proofs.Heights.{heights-length}
 use Rattle.posts.specs.Scan.{askable, good_posts, heights_over, scan, scanned, scan_of, scratch_after}
 use Rattle.posts.specs.Steps.{Asked, BlockScanned}
-use Rattle.posts.specs.declared.Scan.{Scan}
-
-module _ (bytes byte n z : ℕ) (datum : ℤ) (room : ℕ) where
-  pub too_many : 170 < n → askable bytes byte n z datum room ≡ false
-  too_many h =
-      and-fails-first _
-      (and-fails-second (eqb bytes 1024) (and-fails-second (leb 1 byte) (lt-leb (byte + 6 * n) 1025 (omega (arith, h)))))
-
-  pub inside_is : n ≤ 170 → leb byte (1025 - 6 * n) ≡ leb (byte + 6 * n) 1025
-  inside_is h =
-      by-test (leb byte (1025 - 6 * n))
-      (λ e. e ∙ sym (le-leb (byte + 6 * n) 1025 (omega (arith, h, leb-true byte (1025 - 6 * n) e))))
-      (λ e. e ∙ sym (lt-leb (byte + 6 * n) 1025 (omega (arith, h, leb-false byte (1025 - 6 * n) e))))
+use Rattle.posts.specs.Scan.{Scan}
 
 pub asked : (block : List ℕ) (byte n z : ℕ) (datum : ℤ) (scratch : List ℤ)
     → askable (length block) byte n z datum (length scratch) ≡ true → Asked block byte n z datum no_tally scratch

@@ -1,6 +1,5 @@
-pub mod PostRange
 pub mod Sums
 pub mod Scans
-pub mod BlockScans
 pub mod Asking
+pub mod Placing
 pub mod OneAnswer

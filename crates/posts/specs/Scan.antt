@@ -1,5 +1,5 @@
 -- What a scan of a block's posts answers, and what it leaves in the scratch, for any block, place, count and scratch.
-use Rattle.std.specs.Prelude.{Bool, cond, ℕ, ◌+◌, ◌*◌, zero, suc, leb, eqb, ℤ, pos, nat_abs, List, ◌++◌, length, drop, replicate, take}
+use Rattle.std.specs.Prelude.{Bool, cond, ℕ, ◌+◌, ◌*◌, zero, suc, leb, eqb, ℤ, pos, nat_abs, List, ◌++◌, length, drop, replicate, take, Result, Ok, Err}
 use Rattle.std.proofs.lemmas.List.Edits.{sets}
 use Rattle.laws.specs.Sign.{◌and◌}
 use Rattle.number.specs.Integer.{integer}
@@ -7,7 +7,8 @@ use Rattle.field.specs.Field.{stretch}
 use Rattle.ground.specs.Posts.{judge_post, posts_of, posts_rest_fault, heights, tally_all, no_tally, void}
 use Rattle.ground.specs.Extremes.{filled_only, sum_of}
 use Rattle.ground.specs.declared.Tally.{Tally}
-use Rattle.posts.specs.declared.Scan.{Scan}
+use Rattle.field.specs.declared.Broken.{Broken}
+use Rattle.kinds.specs.Kinds.{number_of}
 
 -- what may be asked: n posts from a byte on, inside a block and the scratch, with a z spacing and a datum that document 01 allows
 abbrev pub askable : ℕ → ℕ → ℕ → ℕ → ℤ → ℕ → Bool
@@ -20,8 +21,19 @@ good_posts zero byte block = 0
 good_posts (suc n) byte block =
     cond (eqb (judge_post (integer (stretch byte 6 block))).kind 0) (suc (good_posts n (byte + 6) block)) 0
 
+-- the first fault of the posts and of what stands behind them (kind 0: none), and the tally of their heights
+pub record Scan : Type 0 where
+  pub kind : ℕ
+  pub byte : ℕ
+  pub tally : Tally
+
 abbrev pub scan : ℕ → ℕ → Tally → Scan
 scan kind byte tally = record { kind = kind; byte = byte; tally = tally }
+
+-- as the code answers it
+abbrev pub scan_told : Result Tally Broken → Scan
+scan_told (Ok t) = scan 0 0 t
+scan_told (Err b) = scan (number_of b.kind) b.byte no_tally
 
 -- the first fault; without one the tally of the heights
 abbrev pub scanned : List ℕ → ℕ → ℕ → ℕ → ℤ → Scan

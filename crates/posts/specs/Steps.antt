@@ -5,7 +5,7 @@ use Rattle.field.specs.Field.{fault}
 use Rattle.ground.specs.declared.Tally.{Tally}
 use Rattle.ground.specs.Posts.{void, posts_fault, posts_of, heights, tally_all, no_tally, posts_rest_fault}
 use Rattle.posts.specs.Scan.{good_posts, heights_over}
-use Rattle.posts.specs.declared.Scan.{Scan}
+use Rattle.posts.specs.Scan.{Scan}
 
 -- what a scan may be asked: n posts from a byte, inside the block and the scratch; a z spacing and datum that 01 allows; few so far
 pub record Asked (block : List ℕ) (byte n z : ℕ) (datum : ℤ) (t : Tally) (scratch : List ℤ) : Type 0 where

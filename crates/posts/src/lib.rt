@@ -5,44 +5,35 @@ ghost use Rattle.std.proofs.lemmas.List.Edits.{sets};
 ghost use Rattle.ground.specs.Posts.{void, judge_post, height, tally_one, no_tally, Scaled};
 ghost use Rattle.ground.specs.Extremes.{filled_only, sum_of};
 ghost use Rattle.laws.specs.Sign.{same_z};
-ghost use Rattle.posts.specs.Scan.{askable, good_posts, heights_over, scanned, scan_of, scratch_after, summed, voided, placed};
+ghost use Rattle.number.specs.Reading.{said};
+ghost use Rattle.posts.specs.Scan.{askable, good_posts, heights_over, scanned, scan_of, scan_told, scratch_after, summed, voided, placed};
 ghost use Rattle.posts.specs.Steps.{Asked, Scanned, share};
 
+use field::Broken;
 use ground::Tally;
-use number::Reading;
+use kinds::Kind;
+use number::Unread;
 
-// The first fault of a block's posts and of what stands behind them (kind 0: none), and the tally of their heights.
-#[derive(Clone, Copy)]
-pub struct Scan {
-    pub kind: u32,
-    pub byte: u32,
-    pub tally: Tally,
-}
+// A post of this number, and a cell of that one, is void.
+const VOID_POST: i64 = -32767;
+
+const VOID: i32 = i32::MIN;
 
 // Posts run -32767 to 32767.
 fn in_posts(p: i64) -> bool
     ensures { result ≡ leb (nat_abs p) 32767 }
 {
-    if p < -32767 {
-        return false;
-    }
-    p <= 32767
+    -32767 <= p && p <= 32767
 }
 
-fn judge_post(r: Reading) -> Reading
-    ensures { result ≡ judge_post r }
+fn judge_post(r: Result<i64, Unread>) -> Result<i64, Unread>
+    ensures { said result ≡ judge_post (said r) }
 {
-    if r.kind != 0 {
-        return r;
+    let post = r?;
+    if in_posts(post) {
+        return Ok(post);
     }
-    if in_posts(r.value) {
-        return r;
-    }
-    Reading {
-        kind: 7,
-        value: 0,
-        byte: 0,
-    }
+    Err(Unread::of(Kind::Range))
 }
 
 // The void post is judged before any scaling.
@@ -50,8 +41,8 @@ fn height_of(z: u64, datum: i64, post: i64) -> i64
     requires { Scaled z datum post }
     ensures { result ≡ height z datum post }
 {
-    if figures::same(post, -32767) {
-        return -2147483648;
+    if post == VOID_POST {
+        return VOID as i64;
     }
     post * (z as i64) + datum
 }
@@ -59,7 +50,7 @@ fn height_of(z: u64, datum: i64, post: i64) -> i64
 fn is_void(h: i64) -> bool
     ensures { result ≡ same_z h void }
 {
-    figures::same(h, -2147483648)
+    h == VOID as i64
 }
 
 // While none is filled the extremes are not looked at: a session may hold any there.
@@ -79,8 +70,8 @@ fn tally_one(t: Tally, h: i64) -> Tally
     }
     Tally {
         filled: t.filled + 1,
-        low: figures::lesser_of(t.low, h),
-        high: figures::greater_of(t.high, h),
+        low: t.low.min(h),
+        high: h.max(t.high),
     }
 }
 
@@ -93,37 +84,20 @@ fn scan_posts(
     datum: i64,
     tally: Tally,
     scratch: &mut [i32],
-) -> Scan
+) -> Result<Tally, Broken>
     requires { Asked block.now byte n z datum tally scratch.old }
-    ensures { Scanned block.now byte n z datum tally scratch.old scratch.new result }
+    ensures { Scanned block.now byte n z datum tally scratch.old scratch.new (scan_told result) }
 {
     let mut t = tally;
-    let mut first = byte;
-    let mut i = 0;
-    while i < n {
-        let start = first - 1;
-        let end = start + 6;
-        let r = judge_post(six::read_six(&block[start..end]));
-        if r.kind != 0 {
-            let f = field::fault_or(r, first as u16, field::no_fault());
-            return Scan {
-                kind: f.kind,
-                byte: f.byte,
-                tally: t,
-            };
-        }
-        let h = height_of(z, datum, r.value);
-        let cell = h as i32;
-        scratch[i] = cell;
+    for i in 0..n {
+        let first = byte + 6 * i;
+        let read = six::read_six(&block[first - 1..first + 5]);
+        let post = field::placed(first as u16, judge_post(read))?;
+        let h = height_of(z, datum, post);
+        scratch[i] = h as i32;
         t = tally_one(t, h);
-        first += 6;
-        i += 1;
     }
-    Scan {
-        kind: 0,
-        byte: 0,
-        tally: t,
-    }
+    Ok(t)
 }
 
 fn no_tally() -> Tally
@@ -137,45 +111,36 @@ fn no_tally() -> Tally
 }
 
 // A block's posts, then the rest of it as one blank stretch.
-fn scan_asked(block: &[u8], byte: usize, n: usize, z: u64, datum: i64, scratch: &mut [i32]) -> Scan
+fn scan_asked(
+    block: &[u8],
+    byte: usize,
+    n: usize,
+    z: u64,
+    datum: i64,
+    scratch: &mut [i32],
+) -> Result<Tally, Broken>
     requires { Asked block.now byte n z datum no_tally scratch.old }
-    ensures { (result ≡ scanned block.now byte n z datum) × (scratch.new ≡ heights_over block.now byte (good_posts n byte block.now) z datum scratch.old) }
+    ensures { (scan_told result ≡ scanned block.now byte n z datum) × (scratch.new ≡ heights_over block.now byte (good_posts n byte block.now) z datum scratch.old) }
 {
-    let none = no_tally();
-    let r = scan_posts(block, byte, n, z, datum, none, scratch);
-    if r.kind != 0 {
-        return Scan {
-            kind: r.kind,
-            byte: r.byte,
-            tally: none,
-        };
-    }
+    let tally = scan_posts(block, byte, n, z, datum, no_tally(), scratch)?;
     let from = byte - 1 + 6 * n;
     if field::blank_from(block, from) {
-        let tally = r.tally;
-        return Scan {
-            kind: 0,
-            byte: 0,
-            tally,
-        };
+        return Ok(tally);
     }
-    Scan {
-        kind: 5,
-        byte: (from + 1) as u32,
-        tally: none,
-    }
+    Err(Broken::at(Kind::Stretch, (from + 1) as u32))
 }
 
 // Whether so many posts stand in the block and have room in the scratch, and document 01 allows the z spacing and the datum.
 fn can_scan(bytes: usize, byte: usize, n: usize, z: u64, datum: i64, room: usize) -> bool
     ensures { result ≡ askable bytes byte n z datum room }
 {
-    if 170 < n {
-        return false;
-    }
-    let scaled = figures::both(z <= 100, number::size_of(datum) <= 1000000);
-    let inside = figures::all3(bytes == 1024, 1 <= byte, byte <= 1025 - 6 * n);
-    figures::all3(inside, n <= room, scaled)
+    n <= 170
+        && bytes == 1024
+        && 1 <= byte
+        && byte <= 1025 - 6 * n
+        && n <= room
+        && z <= 100
+        && number::size_of(datum) <= 1000000
 }
 
 // A block's posts and the rest of it. The scratch holds the heights up to the first post at fault.
@@ -186,15 +151,11 @@ pub fn scan_block(
     z: u64,
     datum: i64,
     scratch: &mut [i32],
-) -> Scan
-    ensures { (result ≡ scan_of block.now byte n z datum (length scratch.old)) × (scratch.new ≡ scratch_after block.now byte n z datum scratch.old) }
+) -> Result<Tally, Broken>
+    ensures { (scan_told result ≡ scan_of block.now byte n z datum (length scratch.old)) × (scratch.new ≡ scratch_after block.now byte n z datum scratch.old) }
 {
     if !can_scan(block.len(), byte, n, z, datum, scratch.len()) {
-        return Scan {
-            kind: 1,
-            byte: 0,
-            tally: no_tally(),
-        };
+        return Err(Broken::at(Kind::Length, 0));
     }
     scan_asked(block, byte, n, z, datum, scratch)
 }
@@ -214,11 +175,8 @@ fn add_up(values: &[i32], n: usize) -> i64
     ensures { (result ≡ sum_of (filled_only (take n values.now))) × (nat_abs result ≤ 2 ^ 40) }
 {
     let mut sum: i64 = 0;
-    let mut i = 0;
-    while i < n {
-        let h = values[i] as i64;
-        sum += share_of(h);
-        i += 1;
+    for &h in &values[..n] {
+        sum += share_of(h as i64);
     }
     sum
 }
@@ -227,21 +185,10 @@ fn add_up(values: &[i32], n: usize) -> i64
 pub fn sum_filled(values: &[i32], n: usize) -> i64
     ensures { (result ≡ summed n values.now) × (nat_abs result ≤ 2 ^ 40) }
 {
-    if figures::both(n <= 170, n <= values.len()) {
+    if n <= 170 && n <= values.len() {
         return add_up(values, n);
     }
     0
-}
-
-fn fill_void(grid: &mut [i32], n: usize)
-    requires { n ≤ length grid.old }
-    ensures { grid.new ≡ replicate n void ++ drop n grid.old }
-{
-    let mut i = 0;
-    while i < n {
-        grid[i] = -2147483648;
-        i += 1;
-    }
 }
 
 // The first n cells void, where there are so many; else nothing is written.
@@ -249,19 +196,7 @@ pub fn void_cells(grid: &mut [i32], n: usize)
     ensures { grid.new ≡ voided n grid.old }
 {
     if n <= grid.len() {
-        fill_void(grid, n);
-    }
-}
-
-fn put_values(grid: &mut [i32], at: usize, values: &[i32], n: usize)
-    requires { (at + n ≤ length grid.old) × (n ≤ length values.now) }
-    ensures { grid.new ≡ sets grid.old at (take n values.now) }
-{
-    let mut i = 0;
-    while i < n {
-        let v = values[i];
-        grid[at + i] = v;
-        i += 1;
+        grid[..n].fill(VOID);
     }
 }
 
@@ -270,7 +205,7 @@ pub fn place(grid: &mut [i32], at: usize, values: &[i32], n: usize)
     ensures { grid.new ≡ placed at n values.now grid.old }
 {
     let room = lattice::leaves_room(at as u64, n as u64, grid.len() as u64);
-    if figures::both(room, n <= values.len()) {
-        put_values(grid, at, values, n);
+    if room && n <= values.len() {
+        grid[at..at + n].copy_from_slice(&values[..n]);
     }
 }

@@ -1,6 +1,5 @@
-pub mod Parts
-pub mod Datum
 pub mod Verdicts
 pub mod RecordLaws
 pub mod RecordRules
+pub mod OneHead
 pub mod OneAnswer

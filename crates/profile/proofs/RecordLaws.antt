@@ -11,7 +11,7 @@ use lib.IntN.{ℤ, pos, negsuc, nat_abs}
 use native.Mathlib.Nat.{div-le_of_le-mul}
 use Rattle.laws.proofs.Tests.{by-test, and_second}
 use Rattle.laws.proofs.Integers.{size-minus}
-use Rattle.number.specs.declared.Reading.{Reading}
+use Rattle.number.specs.Reading.{Reading}
 use Rattle.number.specs.Integer.{refused, integer}
 use Rattle.number.specs.Real.{real}
 use Rattle.number.proofs.Limits.{Limited, real-limits}
@@ -19,7 +19,7 @@ use Rattle.field.specs.Field.{Judged, first_of, in_range, posts_limits, stretch,
 use Rattle.field.proofs.Ranges.{posts-few, posts-kind, range-read}
 use Rattle.profile.specs.RecordB.{head_fields, head_fault, head_of, record_b, hundredths, is_datum}
 use Rattle.profile.specs.declared.record_b.Head.{Head}
-use Rattle.profile.specs.declared.record_b.Headed.TheVariants.{Profile, Refused}
+use Rattle.profile.specs.RecordB.Headed.{Profile, Refused}
 
 -- every field's reading has kind 0
 abbrev pub AllRead : List Judged → Type 0

@@ -4,9 +4,9 @@ use mathlib.Core.List.{List, [], ◌∷◌, ◌++◌}
 use mathlib.Core.Logic.{◌↔◌}
 use mathlib.Core.Path.{◌≡◌, sym, ◌∙◌, refl, ap, subst}
 use Prim.Native.Nat.{ℕ, ◌+◌, ◌≤◌, ◌*◌, ◌%◌, ◌^◌}
-use borrow.Author.Tests.{eqb-true, eq-eqb, ne_eqb, leb-true}
+use borrow.Author.Tests.{eqb-true, eq-eqb, ne_eqb, leb-true, le-ltb}
 use lib.Dec.{eqb, leb}
-use lib.IntN.{pos, nat_abs}
+use lib.IntN.{ℤ, pos, negsuc, nat_abs}
 use lib.Signed.{lt_z}
 use lib.ListN.{length}
 use native.Mathlib.Omega.{arith}
@@ -14,7 +14,7 @@ use Rattle.laws.specs.Lists.{joined}
 use Rattle.laws.specs.Sign.{◌and◌, is_zero, implies}
 use Rattle.laws.proofs.Tests.{by-test}
 use Rattle.laws.proofs.Tables.{all}
-use Rattle.number.specs.declared.Reading.{Reading}
+use Rattle.number.specs.Reading.{Reading}
 use Rattle.number.specs.Integer.{integer}
 use Rattle.number.specs.Real.{real}
 use Rattle.field.proofs.Ranges.{posts-kind}
@@ -31,9 +31,12 @@ use Rattle.profile.specs.RecordC.{is_negative, error_reading, fields_c, record_c
 use Rattle.profile.specs.RulesB.{many_posts, head_rules, rules_head}
 use Rattle.profile.specs.RulesC.{error_rules, accuracy_rules, rules_c}
 use Rattle.profile.specs.declared.record_b.Head.{Head}
-use Rattle.profile.specs.declared.record_b.Headed.TheVariants.{Profile, Refused}
-use Rattle.profile.proofs.Parts.{negative-is}
+use Rattle.profile.specs.RecordB.Headed.{Profile, Refused}
 use Rattle.profile.proofs.RecordLaws.{head-answered}
+
+negative-is : (z : ℤ) → lt_z z (pos 0) ≡ is_negative z
+negative-is (pos n) = le-ltb n 0 (omega arith)
+negative-is (negsuc n) = refl
 
 -- ---- the head of a record B
 module _ (family number : ℕ) (block : List ℕ) where

@@ -1,51 +1,49 @@
--- The verdict on a head and on a record C, by what the code found.
-use mathlib.Core.Bool.{true, false, Bool, cond}
-use mathlib.Core.List.{List}
-use mathlib.Core.Path.{◌≡◌, sym, ◌∙◌, ap}
+-- The verdict on a record C, by what its halves and its rest come to.
+use mathlib.Core.Bool.{cond, true, false}
+use mathlib.Core.List.{List, [], ◌∷◌, ◌++◌}
+use mathlib.Core.Path.{◌≡◌, refl, ap}
 use Prim.Native.Nat.{ℕ}
-use borrow.Author.Tests.{eq-eqb, ne_eqb}
+use borrow.Author.Tests.{eq-eqb}
 use lib.Dec.{eqb}
 use lib.ListN.{length, drop}
+use Rattle.kinds.proofs.Numbers.{not-zero}
+use Rattle.kinds.specs.Kinds.{number_of}
+use Rattle.std.specs.Prelude.{Result, Ok, Err, IsErr, IsErrAnd}
 use Rattle.laws.specs.Texts.{every}
+use Rattle.laws.proofs.Tests.{by-test}
 use Rattle.number.specs.Bytes.{is_blank}
-use Rattle.field.specs.declared.Fault.{Fault}
-use Rattle.field.specs.Field.{first_of, fault}
-use Rattle.profile.specs.RecordB.{record_b, head_fields, head_of}
-use Rattle.profile.specs.declared.record_b.Headed.TheVariants.{Profile, Refused}
-use Rattle.profile.specs.RecordC.{record_c, fields_c}
+use Rattle.field.specs.Field.{Judged, Fault, fault, first_of, rest_fault}
+use Rattle.field.specs.declared.Broken.{Broken}
+use Rattle.profile.specs.RecordC.{half_fields, record_c}
 
-module _ (family number : ℕ) (block : List ℕ) where
-  pub head-length : (length block ≡ 1024 → ⊥) → Refused 1 0 ≡ record_b family number block
-  unfolding record_b
-  head-length h = sym (simp (ne_eqb (length block) 1024 h))
+-- what `?` hands on is the error that it met
+pub err-told : {A E : Type 0} (r : Result A E) (b : E) (P : E → Type 0) → ((e : E) → P e → e ≡ b) → IsErr r × IsErrAnd r P → r ≡ Err b
+err-told (Ok a) b P f q = absurd q.1
+err-told (Err e) b P f q = ap Err (f e q.1)
 
-  module _ (h : length block ≡ 1024) (f : Fault) (e : f ≡ first_of (head_fields family number block)) where
-    pub head-refused : (f.kind ≡ 0 → ⊥) → Refused f.kind f.byte ≡ record_b family number block
-    unfolding record_b
-    head-refused n =
-        let q : eqb (first_of (head_fields family number block)).kind 0 ≡ false = ap (λ (x : Fault). eqb x.kind 0) (sym e) ∙ ne_eqb f.kind 0 n in
-        sym (simp (eq-eqb (length block) 1024 h, q) (ap (λ (x : Fault). Refused x.kind x.byte) (sym e)))
+-- one check, and what comes where it finds no fault
+abbrev pub or_else : Fault → Fault → Fault
+or_else f g = cond (eqb f.kind 0) g f
 
-    pub head-good : f.kind ≡ 0 → Profile (head_of block) ≡ record_b family number block
-    unfolding record_b
-    head-good z =
-        let q : eqb (first_of (head_fields family number block)).kind 0 ≡ true = ap (λ (x : Fault). eqb x.kind 0) (sym e) ∙ eq-eqb f.kind 0 z in
-        sym (simp (eq-eqb (length block) 1024 h, q))
+first_of_both : (xs ys : List Judged) → first_of (xs ++ ys) ≡ or_else (first_of xs) (first_of ys)
+first_of_both [] ys = refl
+first_of_both (j ∷ js) ys = by-test (eqb j.reading.kind 0) (λ e. rw e (first_of_both js ys)) (λ e. simp e)
 
-module _ (block : List ℕ) where
-  pub c-length : (length block ≡ 1024 → ⊥) → fault 1 0 ≡ record_c block
+module _ (block : List ℕ) (h : length block ≡ 1024) where
+  by_halves : record_c block ≡ or_else (first_of (half_fields 1 block)) (or_else (first_of (half_fields 31 block)) (rest_fault 61 block))
   unfolding record_c
-  c-length h = sym (simp (ne_eqb (length block) 1024 h))
+  by_halves =
+      rw (eq-eqb (length block) 1024 h, first_of_both (half_fields 1 block) (half_fields 31 block))
+      (by-test (eqb (first_of (half_fields 1 block)).kind 0) (λ e. rw e) (λ e. simp e))
 
-  module _ (h : length block ≡ 1024) (f : Fault) (e : f ≡ first_of (fields_c block)) where
-    pub c-refused : (f.kind ≡ 0 → ⊥) → f ≡ record_c block
-    unfolding record_c
-    c-refused n =
-        let q : eqb (first_of (fields_c block)).kind 0 ≡ false = ap (λ (x : Fault). eqb x.kind 0) (sym e) ∙ ne_eqb f.kind 0 n in
-        sym (simp (eq-eqb (length block) 1024 h, q) (sym e))
+  module _ (one : fault 0 0 ≡ first_of (half_fields 1 block)) where
+    pub c_second : (b : Broken) → fault (number_of b.kind) b.byte ≡ first_of (half_fields 31 block)
+        → fault (number_of b.kind) b.byte ≡ record_c block
+    c_second b two = rw (by_halves, ← one, ← two, not-zero b.kind) refl
 
-    pub c-rest : f.kind ≡ 0 → (b : Bool) → every is_blank (drop 60 block) ≡ b → cond b (fault 0 0) (fault 5 61) ≡ record_c block
-    unfolding record_c
-    c-rest z b t =
-        let q : eqb (first_of (fields_c block)).kind 0 ≡ true = ap (λ (x : Fault). eqb x.kind 0) (sym e) ∙ eq-eqb f.kind 0 z in
-        sym (simp (eq-eqb (length block) 1024 h, q, t))
+    module _ (two : fault 0 0 ≡ first_of (half_fields 31 block)) where
+      pub c_rest : every is_blank (drop 60 block) ≡ false → fault 5 61 ≡ record_c block
+      c_rest e = rw (by_halves, ← one, ← two, e) refl
+
+      pub c_good : every is_blank (drop 60 block) ≡ true → fault 0 0 ≡ record_c block
+      c_good e = rw (by_halves, ← one, ← two, e) refl

@@ -1,14 +1,14 @@
 -- Document 01, "Record B (one profile)": the fields at the head of a profile's first block.
-use Rattle.std.specs.Prelude.{Bool, cond, ◌*◌, ◌%◌, ◌^◌, ℕ, ◌/◌, ℤ, nat_abs, pos, negsuc, neg_ℤ, leb, eqb, List, [], ◌∷◌, length}
+use Rattle.std.specs.Prelude.{Bool, cond, ◌*◌, ◌%◌, ◌^◌, ℕ, ◌/◌, ℤ, nat_abs, pos, negsuc, neg_ℤ, leb, eqb, List, [], ◌∷◌, length, Result, Ok, Err}
 use Rattle.laws.specs.Sign.{◌and◌}
-use Rattle.number.specs.declared.Reading.{Reading}
+use Rattle.number.specs.Reading.{Reading}
 use Rattle.number.specs.Integer.{refused, integer}
 use Rattle.number.specs.Real.{real}
 use Rattle.field.specs.Field.{stretch, limits, posts_limits, ranged, at, Judged, whole_at, real_at, fault, first_of}
-use Rattle.field.specs.declared.Fault.{Fault}
+use Rattle.field.specs.Field.{Fault}
 use Rattle.profile.specs.declared.record_b.Head.{Head}
-use Rattle.profile.specs.declared.record_b.Headed.{Headed}
-use Rattle.profile.specs.declared.record_b.Headed.TheVariants.{Profile, Refused}
+use Rattle.field.specs.declared.Broken.{Broken}
+use Rattle.kinds.specs.Kinds.{number_of}
 
 -- "datum, whole hundredths, magnitude at most 10,000 (7)": hundredths are 10 ^ 7 billionths
 abbrev pub is_datum : ℤ → Bool
@@ -53,8 +53,17 @@ abbrev pub head_fault : ℕ → ℕ → List ℕ → Fault
 head_fault family number block = cond (eqb (length block) 1024) (first_of (head_fields family number block)) (fault 1 0)
 
 -- the cases of the answer, with document 01's kind and byte
+pub data Headed : Type 0 where
+  Profile : Head → Headed
+  Refused : ℕ → ℕ → Headed
+
 abbrev pub headed_by : Fault → Head → Headed
-headed_by f h = cond (eqb f.kind 0) (Profile h) (Refused f.kind f.byte)
+headed_by f h = cond (eqb f.kind 0) (Headed.Profile h) (Headed.Refused f.kind f.byte)
+
+-- and as the code answers it
+abbrev pub headed_told : Result Head Broken → Headed
+headed_told (Ok h) = Headed.Profile h
+headed_told (Err b) = Headed.Refused (number_of b.kind) b.byte
 
 unfoldable pub record_b : ℕ → ℕ → List ℕ → Headed
 record_b family number block = headed_by (head_fault family number block) (head_of block)

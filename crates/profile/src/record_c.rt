@@ -1,77 +1,60 @@
 // Record C, judged whole.
 ghost use Rattle.std.specs.Prelude.{◌≡◌, ◌≤◌};
 ghost use Rattle.number.specs.Integer.{integer};
-ghost use Rattle.field.specs.Field.{stretch, fault_or};
-ghost use Rattle.profile.specs.RecordC.{record_c, error_reading};
-ghost use Rattle.profile.specs.Steps.{half_fault};
+ghost use Rattle.number.specs.Reading.{said};
+ghost use Rattle.field.specs.Field.{stretch, fault, fault_or, first_of};
+ghost use Rattle.field.specs.Told.{fault_told};
+ghost use Rattle.profile.specs.RecordC.{record_c, half_fields, error_reading};
 
-use field::Fault;
-use number::Reading;
+use field::Broken;
+use kinds::Kind;
+use number::Unread;
 
 // An error or a count that was read, under its half's code.
-fn judge_error(code: u64, r: Reading) -> Reading
-    ensures { result ≡ error_reading code r }
+fn judge_error(code: u64, r: Result<i64, Unread>) -> Result<i64, Unread>
+    ensures { said result ≡ error_reading code (said r) }
 {
-    if r.kind != 0 {
-        return r;
+    let z = r?;
+    if z < 0 {
+        return Err(Unread::of(Kind::Range));
     }
-    if r.value < 0 {
-        return Reading {
-            kind: 7,
-            value: 0,
-            byte: 0,
-        };
+    if code == 0 && 0 < z {
+        return Err(Unread::of(Kind::Value));
     }
-    if code != 0 {
-        return r;
-    }
-    if 0 < r.value {
-        return Reading {
-            kind: 9,
-            value: 0,
-            byte: 0,
-        };
-    }
-    r
+    Ok(z)
 }
 
-fn error_at(code: u64, block: &[u8], byte: u16, rest: Fault) -> Fault
-    ensures { result ≡ fault_or (error_reading code (integer (stretch byte 6 block.now))) byte rest }
+fn error_at(code: u64, block: &[u8], byte: u16) -> Result<i64, Broken>
+    ensures { fault_told result ≡ fault_or (error_reading code (integer (stretch byte 6 block.now))) byte (fault 0 0) }
 {
-    field::fault_or(
-        judge_error(code, field::integer_at(block, byte)),
-        byte,
-        rest,
-    )
+    field::placed(byte, judge_error(code, field::integer_at(block, byte)))
 }
 
 // Code, three errors and count, from a byte.
-fn half_fault(block: &[u8], byte: u16, rest: Fault) -> Fault
+fn check_half(block: &[u8], byte: u16) -> Result<(), Broken>
     requires { byte ≤ 31 }
-    ensures { result ≡ half_fault byte block.now rest }
+    ensures { fault_told result ≡ first_of (half_fields byte block.now) }
 {
-    let r = field::integer_at(block, byte);
-    let code = figures::not_negative(r.value);
-    let count = error_at(code, block, byte + 24, rest);
-    let third = error_at(code, block, byte + 18, count);
-    let second = error_at(code, block, byte + 12, third);
-    let first = error_at(code, block, byte + 6, second);
-    field::judge(field::limits_of(0, 1, 1, 9), r, byte, first)
+    let code = field::judge_at(field::bounds_of(0, 1, 1, Kind::Value), block, byte)?;
+    let code = figures::not_negative(code);
+    error_at(code, block, byte + 6)?;
+    error_at(code, block, byte + 12)?;
+    error_at(code, block, byte + 18)?;
+    error_at(code, block, byte + 24)?;
+    Ok(())
 }
 
-pub fn check_record_c(block: &[u8]) -> Fault
-    ensures { result ≡ record_c block.now }
+#[tactic(auto, unfolding(crate::specs::RecordC::record_c))]
+pub fn check_record_c(block: &[u8]) -> Result<(), Broken>
+    ensures { fault_told result ≡ record_c block.now }
 {
     if block.len() != 1024 {
-        return Fault { kind: 1, byte: 0 };
+        return Err(Broken::at(Kind::Length, 0));
     }
-    let second = half_fault(block, 31, field::no_fault());
-    let f = half_fault(block, 1, second);
-    if f.kind != 0 {
-        return f;
+    check_half(block, 1)?;
+    check_half(block, 31)?;
+    if !field::blank_from(block, 60) {
+        return Err(Broken::at(Kind::Stretch, 61));
     }
-    if field::blank_from(block, 60) {
-        return field::no_fault();
-    }
-    Fault { kind: 5, byte: 61 }
+    Ok(())
 }

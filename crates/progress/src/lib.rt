@@ -21,8 +21,8 @@ fn merge(t: Tally, u: Tally) -> Tally
     }
     Tally {
         filled: t.filled + u.filled,
-        low: figures::lesser_of(t.low, u.low),
-        high: figures::greater_of(t.high, u.high),
+        low: t.low.min(u.low),
+        high: t.high.max(u.high),
     }
 }
 
@@ -36,17 +36,13 @@ fn read_on(p: Profile, n: u64, u: Tally) -> Profile
         low: p.low,
         high: p.high,
     };
-    let t = merge(before, u);
+    let Tally { filled, low, high } = merge(before, u);
     Profile {
-        posts: p.posts,
-        row: p.row,
-        datum: p.datum,
-        least: p.least,
-        greatest: p.greatest,
         read: p.read + n,
-        filled: t.filled,
-        low: t.low,
-        high: t.high,
+        filled,
+        low,
+        high,
+        ..p
     }
 }
 
@@ -54,49 +50,50 @@ fn fill_counted(s: Session, column: u64, p: Profile, n: u64, u: Tally, sum: i64)
     requires { Counted s p n u sum }
     ensures { result ≡ filled_with s column p n u sum }
 {
-    let header = s.header;
     let before = Tally {
         filled: s.filled,
         low: s.low,
         high: s.high,
     };
-    let t = merge(before, u);
-    let profile = read_on(p, n, u);
+    let Tally { filled, low, high } = merge(before, u);
     Session {
-        header,
         taken: s.taken + 1,
-        closed: s.closed,
         posts: s.posts + n,
-        filled: t.filled,
-        low: t.low,
-        high: t.high,
+        filled,
+        low,
+        high,
         column,
-        finished: s.finished,
-        profile,
+        profile: read_on(p, n, u),
         sum: s.sum + sum,
-        family: s.family,
+        ..s
     }
+}
+
+fn is_small(n: u64) -> bool
+    ensures { result ≡ small n }
+{
+    n <= 4294967296
 }
 
 fn is_near(z: i64) -> bool
     ensures { result ≡ near z }
 {
-    number::size_of(z) <= 1000000000000000000
+    z.unsigned_abs() <= 1000000000000000000
 }
 
 // Counts and sums that no sheet comes near are not gone on from: so every sum fits.
 fn is_countable(s: Session, p: Profile, n: u64, u: Tally, sum: i64) -> bool
     ensures { result ≡ countable s p n u sum }
 {
-    let sheet = figures::all3(
-        s.taken <= 4294967296,
-        s.posts <= 4294967296,
-        s.filled <= 4294967296,
-    );
-    let profile = figures::both(p.read <= 4294967296, p.filled <= 4294967296);
-    let block = figures::both(n <= 4294967296, u.filled <= 4294967296);
-    let sums = figures::both(is_near(s.sum), is_near(sum));
-    figures::all4(sheet, profile, block, sums)
+    is_small(s.taken)
+        && is_small(s.posts)
+        && is_small(s.filled)
+        && is_small(p.read)
+        && is_small(p.filled)
+        && is_small(n)
+        && is_small(u.filled)
+        && is_near(s.sum)
+        && is_near(sum)
 }
 
 // The session with a block more of profile p: n posts, of tally u, and their sum.
@@ -104,34 +101,24 @@ pub fn fill_session(s: Session, column: u64, p: Profile, n: u64, u: Tally, sum: 
     ensures { result ≡ cond (countable s p n u sum) (filled_with s column p n u sum) s }
 {
     if is_countable(s, p, n, u, sum) {
-        return fill_counted(s, column, p, n, u, sum);
+        fill_counted(s, column, p, n, u, sum)
+    } else {
+        s
     }
-    s
 }
 
 // The open profile closed.
 pub fn close_session(s: Session) -> Session
     ensures { result ≡ cond (small s.closed) (closed_session s) s }
 {
-    if 4294967296 < s.closed {
-        return s;
-    }
-    let header = s.header;
-    let empty = session::new();
-    let profile = empty.profile;
-    Session {
-        header,
-        taken: s.taken,
-        closed: s.closed + 1,
-        posts: s.posts,
-        filled: s.filled,
-        low: s.low,
-        high: s.high,
-        column: s.column,
-        finished: s.finished,
-        profile,
-        sum: s.sum,
-        family: s.family,
+    if is_small(s.closed) {
+        Session {
+            closed: s.closed + 1,
+            profile: Profile::default(),
+            ..s
+        }
+    } else {
+        s
     }
 }
 
@@ -139,23 +126,13 @@ pub fn close_session(s: Session) -> Session
 pub fn finish_session(s: Session) -> Session
     ensures { result ≡ cond (small s.taken) (finished_session s) s }
 {
-    if 4294967296 < s.taken {
-        return s;
-    }
-    let header = s.header;
-    let profile = s.profile;
-    Session {
-        header,
-        taken: s.taken + 1,
-        closed: s.closed,
-        posts: s.posts,
-        filled: s.filled,
-        low: s.low,
-        high: s.high,
-        column: s.column,
-        finished: 1,
-        profile,
-        sum: s.sum,
-        family: s.family,
+    if is_small(s.taken) {
+        Session {
+            taken: s.taken + 1,
+            finished: 1,
+            ..s
+        }
+    } else {
+        s
     }
 }

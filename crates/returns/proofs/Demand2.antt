@@ -28,7 +28,7 @@ use Rattle.delivery.specs.declared.Answer.TheVariants.{Taken}
 use Rattle.meaning.specs.Deliveries.{Call, Fresh, session_after, grid_after, deliveries, answers}
 use Rattle.delivery.specs.Deliver.{lend}
 use Rattle.meaning.proofs.Desks.{Desk, desk, at_first, after_all, all_answered, calls-desk, calls-answers, calls_for, calls-kept, calls-deliver}
-use Rattle.written.specs.declared.Sent.TheVariants.{Written}
+use Rattle.written.specs.Sending.Sent.{Written}
 use Rattle.written.specs.Cells.{column_cells, first_row, cells_sent, block_count}
 use Rattle.written.specs.Blocks.{block_sent}
 use Rattle.written.specs.Sending.{block_objection, sent_by, sheet_sent_objection, sent_text, count_of}

@@ -1,5 +1,6 @@
 -- Blocks that follow the layout of a sheet, whoever wrote them: their joined text breaks no rule, block by block, and ends complete.
 -- The rules that each next block adds (meaning, RulesGrow) carry it.
+use Rattle.std.specs.Prelude.{Some}
 use mathlib.Core.Bool.{true, Bool, false, cond}
 use mathlib.Core.List.{[], ◌∷◌, List, map, ◌++◌}
 use mathlib.Core.Path.{◌≡◌, refl, sym, ◌∙◌, ap, ap₂}
@@ -19,7 +20,6 @@ use Rattle.laws.proofs.Tests.{by-test}
 use Rattle.laws.proofs.SameNumbers.{same_z-is}
 use Rattle.laws.proofs.Lists.{from-length, joined-empty, joined-more, append-nil, append-brackets}
 use Rattle.lattice.specs.Lattice.{lattice_of, place_of}
-use Rattle.lattice.specs.declared.Place.TheVariants.{On}
 use Rattle.field.specs.Field.{rest_fault}
 use Rattle.frame.specs.Frame.{columns_of, rows_of, west, east, south, north, z_of}
 use Rattle.frame.specs.declared.Header.{Header}
@@ -66,9 +66,9 @@ pub record Follows (at : ℕ → List ℕ) (cells : ℕ → List ℤ) (row : ℕ
   pub least-is : (j : ℕ) → j < columns_of h → (head_of (at (start_by cells j))).least ≡ least_stated (cells j)
   pub greatest-is : (j : ℕ) → j < columns_of h → (head_of (at (start_by cells j))).greatest ≡ greatest_stated (cells j)
   pub column-is : (j : ℕ) → j < columns_of h
-      → place_of (lattice_of (west h) (east h) h.xstep) h.xstep (head_of (at (start_by cells j))).x ≡ On j
+      → place_of (lattice_of (west h) (east h) h.xstep) h.xstep (head_of (at (start_by cells j))).x ≡ Some j
   pub row_is : (j : ℕ) → j < columns_of h
-      → place_of (lattice_of (south h) (north h) h.ystep) h.ystep (head_of (at (start_by cells j))).y ≡ On (row j)
+      → place_of (lattice_of (south h) (north h) h.ystep) h.ystep (head_of (at (start_by cells j))).y ≡ Some (row j)
   pub row_room : (j : ℕ) → j < columns_of h → row j + length (cells j) ≤ rows_of h
   pub posts-fine : (j q : ℕ) → j < columns_of h → q < blocks_for (length (cells j))
       → (posts_fault (posts_of_block (length (cells j)) q) (posts_byte q) (at (start_by cells j + q))).kind ≡ 0
@@ -262,10 +262,10 @@ module _ (at : ℕ → List ℕ) (cells : ℕ → List ℤ) (row : ℕ → ℕ) 
         (ap₂ (λ (m : ℕ) (a : List ℕ). (rest_fault (posts_byte turn + 6 * posts_of_block m turn) a).kind) more-posts l
         ∙ w.rest-blank c turn s.below-n turn-within)
 
-    column-on : (j : ℕ) → j ≤ c → column_place_in more j ≡ On j
+    column-on : (j : ℕ) → j ≤ c → column_place_in more j ≡ Some j
     column-on j le = ap₂ column_by more-header (more-head j le) ∙ w.column-is j (omega (arith, le, s.below-n))
 
-    row_on : row_place_in more c ≡ On (row c)
+    row_on : row_place_in more c ≡ Some (row c)
     row_on = ap₂ row_by more-header (more-head c (omega arith)) ∙ w.row_is c s.below-n
 
     place_kept : Kept (place_rules more c)
@@ -277,7 +277,7 @@ module _ (at : ℕ → List ℕ) (cells : ℕ → List ℤ) (row : ℕ → ℕ) 
         ∙ le-leb (row c + (head_in more c).posts) (rows_of (header_in more))
         (omega (arith, more-posts, w.row_room c s.below-n, ap rows_of more-header))))
       where
-        column-fine : (j : ℕ) → j ≡ c → column_kept more j (On j) ≡ true
+        column-fine : (j : ℕ) → j ≡ c → column_kept more j (Some j) ≡ true
         column-fine zero e =
             le-leb (0 + profiles_in more) (columns_of (header_in more)) (omega (arith, more-n, ap columns_of more-header))
         column-fine (suc j) e =

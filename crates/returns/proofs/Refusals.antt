@@ -15,12 +15,12 @@ use Rattle.frame.specs.Frame.{cells_of, z_of}
 use Rattle.frame.specs.declared.Header.{Header}
 use Rattle.heading.specs.Heading.{header_of}
 use Rattle.sheet.specs.RecordA.{record_a}
-use Rattle.sheet.specs.declared.Checked.{Checked}
-use Rattle.sheet.specs.declared.Checked.TheVariants.{Sheet, Refused as NoSheet}
+use Rattle.sheet.specs.RecordA.{Checked}
+use Rattle.sheet.specs.RecordA.Checked.{Sheet, Refused as NoSheet}
 use Rattle.sheet.proofs.RulesA.{sheet-header}
 use Rattle.ground.specs.Posts.{void}
-use Rattle.written.specs.declared.Sent.{Sent}
-use Rattle.written.specs.declared.Sent.TheVariants.{Written, Refused}
+use Rattle.written.specs.Sending.{Sent}
+use Rattle.written.specs.Sending.Sent.{Written, Refused}
 use Rattle.written.specs.Cells.{can_send, sendable, block_count}
 use Rattle.written.specs.Blocks.{sheet_cells}
 use Rattle.written.specs.Sending.{Objection, objection, sent_by, first, grid_objection, checked_objection, sheet_objection, number_objection, block_objection}

@@ -11,14 +11,14 @@ use lib.Seq.{take_all, take-length}
 use mathlib.Core.Bool.{true}
 use Rattle.laws.proofs.Tests.{by-test}
 use Rattle.lattice.specs.Lattice.{lattice_of, place_of}
-use Rattle.field.specs.declared.Fault.{Fault}
+use Rattle.field.specs.Field.{Fault}
 use Rattle.field.specs.Field.{rest_fault}
 use Rattle.frame.specs.Frame.{columns_of, rows_of, west, east, south, north, cells_of, z_of}
 use Rattle.frame.specs.declared.Header.{Header}
 use Rattle.heading.specs.Heading.{header_of, header_obeys}
 use Rattle.heading.proofs.HeadingFacts.{Heading, header-facts}
 use Rattle.sheet.specs.RecordA.{record_a, fault_of}
-use Rattle.sheet.specs.declared.Checked.TheVariants.{Sheet}
+use Rattle.sheet.specs.RecordA.Checked.{Sheet}
 use Rattle.sheet.proofs.SheetObeys.{sheet-obeys}
 use Rattle.profile.specs.RecordB.{head_of, head_fault}
 use Rattle.profile.specs.declared.record_b.Head.{Head}

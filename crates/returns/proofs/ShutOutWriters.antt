@@ -33,7 +33,7 @@ use Rattle.meaning.specs.PaperSheet.{paper_a, paper_cells}
 use Rattle.meaning.specs.Deliveries.{Delivery}
 use Rattle.meaning.proofs.Desks.{Desk, answered}
 use Rattle.written.specs.Cells.{can_send, sendable, voids_before, up_to_last, profile_cells, start_at, column_for, cells_sent}
-use Rattle.written.specs.declared.Sent.TheVariants.{Written}
+use Rattle.written.specs.Sending.Sent.{Written}
 use Rattle.written.specs.Sending.{objection, sent_by, sheet_objection, block_objection}
 use Rattle.written.specs.Blocks.{pieces_by, block_zero, block_sent, profile_block, sheet_cells, pieces_a, x_sent, y_sent}
 use Rattle.written.proofs.PiecesSent.{piece_fits, CornerFits, header-reals, zero-fits, all_fit}

@@ -16,15 +16,15 @@ use Rattle.laws.proofs.Tables.{all}
 use Rattle.laws.proofs.Tests.{and_second, by-test, and_both, and_first}
 use Rattle.number.specs.Integer.{integer, read}
 use Rattle.number.specs.Real.{real}
-use Rattle.number.specs.declared.Reading.{Reading}
+use Rattle.number.specs.Reading.{Reading}
 use Rattle.field.specs.Field.{stretch, in_range, ranged, whole_at}
-use Rattle.field.specs.declared.Limits.{Limits}
+use Rattle.field.specs.Field.{Limits}
 use Rattle.frame.specs.declared.Header.{Header}
 use Rattle.frame.specs.Frame.{columns_of, rows_of, one_to2048, whole_fault}
 use Rattle.heading.specs.Heading.{zone_limits, ground_limits, height_limits, fields_obey, header_obeys, header_of}
 use Rattle.heading.proofs.HeadingFacts.{Ranged, Heading, header-facts, level_limits, pattern_limits, system_limits, vertical_limits, sides_limits, angle_limits, accuracy_limits, spacing_limits, rank_limits, profiles_limits}
 use Rattle.sheet.specs.RecordA.{Row, judge_row, first_fault, record_a, row, usgs_front, back as back_rows, fields_of, judge, fault_of}
-use Rattle.sheet.specs.declared.Checked.TheVariants.{Sheet}
+use Rattle.sheet.specs.RecordA.Checked.{Sheet}
 use Rattle.sheet.specs.RecordA.Rule.{words, form}
 use Rattle.sheet.specs.RecordASteps.{place_in}
 use Rattle.sheet.proofs.RulesA.{sheet-exactly, sheet-fine}

@@ -4,10 +4,10 @@ use Rattle.frame.specs.Frame.{cells_of, z_of}
 use Rattle.frame.specs.declared.Header.{Header}
 use Rattle.heading.specs.Heading.{header_of}
 use Rattle.sheet.specs.RecordA.{record_a}
-use Rattle.sheet.specs.declared.Checked.TheVariants.{Sheet, Refused as NoSheet}
+use Rattle.sheet.specs.RecordA.Checked.{Sheet, Refused as NoSheet}
 use Rattle.ground.specs.Posts.{void}
-use Rattle.written.specs.declared.Sent.{Sent}
-use Rattle.written.specs.declared.Sent.TheVariants.{Written, Refused}
+use Rattle.written.specs.Sending.{Sent}
+use Rattle.written.specs.Sending.Sent.{Written, Refused}
 use Rattle.written.specs.Sending.{sent_by, block_objection, block_after, sheet_sent_objection, sheet_after}
 use Rattle.written.specs.Cells.{can_send, block_count}
 

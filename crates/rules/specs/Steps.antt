@@ -1,12 +1,10 @@
--- The closing rules by the answers of their tests: the contract of a private function.
-use Rattle.std.specs.Prelude.{Bool, cond, ℕ}
+-- A closing rule as the code answers it.
+use Rattle.std.specs.Prelude.{Result, Ok, Err}
 use Rattle.delivery.specs.Deliver.{refusal}
-use Rattle.delivery.specs.declared.Refusal.{Refusal}
+use Rattle.delivery.specs.Deliver.{Refusal}
+use Rattle.rules.specs.declared.Misstated.{Misstated}
 
-abbrev pub closing : ℕ → Bool → Bool → Bool → Bool → Bool → Refusal
-closing block least greatest last lowest highest =
-    cond least
-    (cond greatest
-    (cond last (cond lowest (cond highest (refusal 0 0 0) (refusal 11 0 763)) (refusal 11 0 739)) (refusal 0 0 0))
-    (refusal 11 block 121))
-    (refusal 11 block 97)
+-- a closing rule as the code answers it: every one of them is of kind 11
+abbrev pub closing_told : {A : Type 0} → Result A Misstated → Refusal
+closing_told (Ok a) = refusal 0 0 0
+closing_told (Err m) = refusal 11 m.block m.byte

@@ -2,72 +2,62 @@
 // The rules over a whole profile: where it stands, and what closes it. Document 01, "Record B".
 ghost use Rattle.std.specs.Prelude.{◌≡◌, ◌+◌, eqb};
 ghost use Rattle.laws.specs.Sign.{same_z};
-ghost use Rattle.rules.specs.Steps.{closing};
+ghost use Rattle.rules.specs.Steps.{closing_told};
 ghost use Rattle.delivery.specs.Deliver.{column_fits, row_fits, column_from, opened_at, stated, refusal, close_fault};
 
-use delivery::Refusal;
-use lattice::Place;
 use profile::record_b::Head;
 use session::{Profile, Session};
+
+// A stated extreme that is not that of the cells (11): the block and the byte where it is stated.
+#[derive(Clone, Copy)]
+pub struct Misstated {
+    pub block: u64,
+    pub byte: u32,
+}
 
 // Whether two counts make a third. Their sum may not fit a u64.
 fn is_sum(a: u64, b: u64, total: u64) -> bool
     ensures { result ≡ eqb (a + b) total }
 {
-    if total < b {
-        return false;
-    }
-    a == total - b
+    total.checked_sub(b) == Some(a)
 }
 
 // The first profile leaves room for all; each next one stands a column further east.
-pub fn column_fits(s: Session, p: Place) -> bool
+pub fn column_fits(s: Session, p: Option<u64>) -> bool
     ensures { result ≡ column_fits s p }
 {
-    let h = s.header;
     match p {
-        Place::On(c) => {
-            if s.closed == 0 {
-                let columns = frame::column_lattice(h);
-                lattice::leaves_room(c, h.profiles, columns.count)
-            } else {
-                is_sum(s.column, s.closed, c)
-            }
+        Some(c) if s.closed == 0 => {
+            lattice::leaves_room(c, s.header.profiles, frame::columns(s.header))
         }
-        Place::Off => false,
+        Some(c) => is_sum(s.column, s.closed, c),
+        None => false,
     }
 }
 
-pub fn row_fits(s: Session, posts: u64, p: Place) -> bool
+pub fn row_fits(s: Session, posts: u64, p: Option<u64>) -> bool
     ensures { result ≡ row_fits s posts p }
 {
-    let h = s.header;
-    match p {
-        Place::On(r) => {
-            let rows = frame::row_lattice(h);
-            lattice::leaves_room(r, posts, rows.count)
-        }
-        Place::Off => false,
-    }
+    p.is_some_and(|r| lattice::leaves_room(r, posts, frame::rows(s.header)))
 }
 
 // The first profile's column, with a profile at this place.
-pub fn first_column(s: Session, p: Place) -> u64
+pub fn first_column(s: Session, p: Option<u64>) -> u64
     ensures { result ≡ column_from s p }
 {
     if s.closed == 0 {
-        return lattice::place_number(p);
+        return p.unwrap_or(0);
     }
     s.column
 }
 
 // A profile that opens, with no post read yet.
-pub fn open_profile(head: Head, p: Place) -> Profile
+pub fn open_profile(head: Head, p: Option<u64>) -> Profile
     ensures { result ≡ opened_at head p }
 {
     Profile {
         posts: head.posts,
-        row: lattice::place_number(p),
+        row: p.unwrap_or(0),
         datum: head.datum,
         least: head.least,
         greatest: head.greatest,
@@ -78,65 +68,42 @@ pub fn open_profile(head: Head, p: Place) -> Profile
     }
 }
 
-// A stated extreme, in billionths, is that of the filled cells, in hundredths; zero where none is filled. No i64 is as far
-// from zero as 922,337,203,686 hundredths.
+// A stated extreme, in billionths, is that of the filled cells, in hundredths; zero where none is filled.
 fn agrees(told: i64, filled: u64, extreme: i64) -> bool
     ensures { result ≡ same_z told (stated filled extreme) }
 {
     if filled == 0 {
-        return figures::same(told, 0);
+        return told == 0;
     }
-    if 922337203685 < number::size_of(extreme) {
-        return false;
-    }
-    figures::same(told, extreme * 10000000)
+    extreme.checked_mul(10000000) == Some(told)
 }
 
-fn refuse_at(kind: u32, block: u64, byte: u32) -> Refusal
-    ensures { result ≡ refusal kind block byte }
+fn told_otherwise(block: u64, byte: u32) -> Result<(), Misstated>
+    ensures { closing_told result ≡ refusal 11 block byte }
 {
-    Refusal { kind, block, byte }
+    Err(Misstated { block, byte })
 }
 
-// The first that is broken of the closing rules, in their order; the sheet's are asked with its last profile.
-fn first_broken(
-    block: u64,
-    least: bool,
-    greatest: bool,
-    last: bool,
-    lowest: bool,
-    highest: bool,
-) -> Refusal
-    ensures { result ≡ closing block least greatest last lowest highest }
-{
-    if !least {
-        return refuse_at(11, block, 97);
-    }
-    if !greatest {
-        return refuse_at(11, block, 121);
-    }
-    if !last {
-        return refuse_at(0, 0, 0);
-    }
-    if !lowest {
-        return refuse_at(11, 0, 739);
-    }
-    if !highest {
-        return refuse_at(11, 0, 763);
-    }
-    refuse_at(0, 0, 0)
-}
-
-// The closing rules of a profile, then of the sheet with its last profile; `block` is the profile's first.
-pub fn close_fault(block: u64, s: Session) -> Refusal
-    ensures { result ≡ close_fault block s }
+// The closing rules of a profile, then of the sheet with its last profile, in their order; `block` is the profile's first.
+pub fn close_fault(block: u64, s: Session) -> Result<(), Misstated>
+    ensures { closing_told result ≡ close_fault block s }
 {
     let p = s.profile;
     let h = s.header;
-    let least = agrees(p.least, p.filled, p.low);
-    let greatest = agrees(p.greatest, p.filled, p.high);
-    let last = is_sum(s.closed, 1, h.profiles);
-    let lowest = agrees(h.least, s.filled, s.low);
-    let highest = agrees(h.greatest, s.filled, s.high);
-    first_broken(block, least, greatest, last, lowest, highest)
+    if !agrees(p.least, p.filled, p.low) {
+        return told_otherwise(block, 97);
+    }
+    if !agrees(p.greatest, p.filled, p.high) {
+        return told_otherwise(block, 121);
+    }
+    if !is_sum(s.closed, 1, h.profiles) {
+        return Ok(());
+    }
+    if !agrees(h.least, s.filled, s.low) {
+        return told_otherwise(0, 739);
+    }
+    if !agrees(h.greatest, s.filled, s.high) {
+        return told_otherwise(0, 763);
+    }
+    Ok(())
 }

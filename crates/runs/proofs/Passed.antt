@@ -10,14 +10,14 @@ use lib.Dec.{eqb, ltb, leb}
 use lib.IntN.{ℤ}
 use lib.ListN.{length}
 use Rattle.laws.proofs.Tests.{clash, by-test, either}
-use Rattle.field.specs.declared.Fault.{Fault}
+use Rattle.field.specs.Field.{Fault}
 use Rattle.frame.specs.declared.Header.{Header}
 use Rattle.frame.specs.Frame.{cells_of}
-use Rattle.sheet.specs.declared.Checked.{Checked}
-use Rattle.sheet.specs.declared.Checked.TheVariants.{Sheet, Refused as NoSheet}
+use Rattle.sheet.specs.RecordA.{Checked}
+use Rattle.sheet.specs.RecordA.Checked.{Sheet, Refused as NoSheet}
 use Rattle.sheet.specs.RecordA.{record_of}
-use Rattle.profile.specs.declared.record_b.Headed.{Headed}
-use Rattle.profile.specs.declared.record_b.Headed.TheVariants.{Profile as Headed-as-Profile, Refused as NoProfile}
+use Rattle.profile.specs.RecordB.{Headed}
+use Rattle.profile.specs.RecordB.Headed.{Profile as Headed-as-Profile, Refused as NoProfile}
 use Rattle.profile.specs.RecordB.{record_b}
 use Rattle.profile.specs.RecordC.{record_c}
 use Rattle.ground.specs.Posts.{posts_rest_fault}

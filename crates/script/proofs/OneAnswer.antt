@@ -4,7 +4,7 @@ use Rattle.script.proofs.cells_of.Reads as cells-of·told
 use Rattle.script.proofs.head_of.Reads as head-of·told
 
 pub cells_of : OneResult cells-of·told.Learnt
-cells_of κs a z z' e e' p q = one_answer p q
+cells_of κs a z z' e e' p q = one_answer p.0 q.0
 
 pub head_of : OneResult head-of·told.Learnt
-head_of κs a z z' e e' p q = one_answer p q
+head_of κs a z z' e e' p q = one_answer p.0 q.0

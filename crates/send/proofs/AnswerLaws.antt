@@ -5,7 +5,7 @@ use Prim.Native.Nat.{ℕ, ◌≤◌, ◌<◌, ◌-◌}
 use lib.IntN.{ℤ}
 use mathlib.Core.Bool.{false, true}
 use native.Mathlib.Omega.{arith}
-use borrow.Author.Tests.{eqb-true, eq-eqb, ne_eqb, le-leb, lt-leb}
+use borrow.Author.Tests.{eq-eqb, ne_eqb, le-leb, lt-leb}
 use lib.Dec.{eqb, leb}
 use lib.ListN.{length}
 use Rattle.laws.proofs.Tests.{by-test}
@@ -13,20 +13,20 @@ use Rattle.frame.specs.declared.Header.{Header}
 use Rattle.frame.specs.Frame.{columns_of, rows_of}
 use Rattle.heading.specs.Heading.{header_of}
 use Rattle.sheet.proofs.SheetObeys.{sheet-obeys}
-use Rattle.written.specs.Sending.{sheet_objection, Objection, objection, block_objection, block_after, count_of, sent_by}
+use Rattle.written.specs.Sending.{sheet_objection, Objection, block_objection, block_after, count_of, sent_by}
 use Rattle.written.specs.Cells.{block_count, column_with}
 use Rattle.written.specs.Blocks.{profile_block, block_zero, block_sent}
 use Rattle.written.proofs.SheetPasses.{fine-passes}
 use Rattle.written.proofs.SheetSent.{start-next, with-start, with-below, with-end}
-use Rattle.columns.specs.declared.judging.Judged.{Judged}
-use Rattle.columns.specs.declared.judging.Judged.TheVariants.{Good, Bad}
+use Rattle.columns.specs.Judging.Judged.{Good, Bad}
 use Rattle.columns.specs.Judging.{judged_by}
+use Rattle.columns.proofs.Verdicts.{judged-good, judged-bad}
 use Rattle.census.specs.Census.{counted, found_by, found_at}
 use Rattle.census.specs.declared.Found.{Found}
 use Rattle.census.proofs.CensusLaws.{sheet-counted, sheet-found}
 use Rattle.send.specs.WholeSteps.{FitAsked}
-use Rattle.written.specs.declared.Sent.{Sent}
-use Rattle.written.specs.declared.Sent.TheVariants.{Refused, Written}
+use Rattle.written.specs.Sending.{Sent}
+use Rattle.written.specs.Sending.Sent.{Refused, Written}
 use Rattle.send.specs.SendSteps.{SendableSheet, ZeroAsked, ProfileAsked}
 use Rattle.send.specs.AnswerSteps.{count_objection, numbered, LaterAsked, later_block}
 
@@ -44,41 +44,6 @@ pub counts : {h : Header} {grid : List ℤ} → SendableSheet h grid → counted
 counts {h} {grid} s = sheet-counted h grid s.obeys s.room
 
 -- ---- what the judge's answer says
-
-is_bad : Judged → ℕ
-is_bad (Good h) = 0
-is_bad (Bad kind number) = 1
-
-good_header : Header → Judged → Header
-good_header k (Good h) = h
-good_header k (Bad kind number) = k
-
-bad_objection : Judged → Objection
-bad_objection (Good h) = objection 0 0
-bad_objection (Bad kind number) = objection kind number
-
-module _ (k : Header) (f : Objection) where
-  judged-good : (h : Header) → Good h ≡ judged_by k f → (f.kind ≡ 0) × (h ≡ k)
-  unfolding is_bad good_header
-  judged-good h e =
-      by-test (eqb f.kind 0)
-      (λ t.
-      let q : Good h ≡ Good k = rw t at e in
-      (eqb-true f.kind 0 t, ap (good_header k) q))
-      (λ t.
-      let q : Good h ≡ Bad f.kind f.number = rw t at e in
-      let n : ◌≡◌ {A = ℕ} 0 1 = ap is_bad q in absurd (omega (arith, n)))
-
-  pub judged-bad : (kind number : ℕ) → Bad kind number ≡ judged_by k f → (eqb f.kind 0 ≡ false) × (objection kind number ≡ f)
-  unfolding is_bad bad_objection
-  judged-bad kind number e =
-      by-test (eqb f.kind 0)
-      (λ t.
-      let q : Bad kind number ≡ Good k = rw t at e in
-      let n : ◌≡◌ {A = ℕ} 1 0 = ap is_bad q in absurd (omega (arith, n)))
-      (λ t.
-      let q : Bad kind number ≡ Bad f.kind f.number = rw t at e in
-      (t, ap bad_objection q))
 
 module _ (template : List ℕ) (grid : List ℤ) where
   module _ (h : Header) (e : Good h ≡ judged_by (header_of template) (sheet_objection template grid)) where

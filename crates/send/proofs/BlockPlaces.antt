@@ -1,6 +1,6 @@
 -- A profile's place lies between the corners: so the machine's sum and product hold it.
 use mathlib.Core.Bool.{true}
-use mathlib.Core.Path.{◌≡◌}
+use mathlib.Core.Path.{◌≡◌, ◌∙◌, ap}
 use Prim.Native.Nat.{ℕ, ◌<◌, ◌^◌}
 use native.Mathlib.Omega.{arith}
 use lib.IntN.{ℤ, pos, ◌+ℤ◌, ◌*ℤ◌}
@@ -9,6 +9,7 @@ use mir.Syntax.{w64}
 use mir.Val.{SFits, to_z, of_z}
 use Rattle.laws.proofs.Integers.{size-sum, size_fits}
 use Rattle.lattice.specs.Lattice.{lattice_of}
+use Rattle.lattice.specs.declared.Lattice.{Lattice}
 use Rattle.lattice.proofs.Cases.{real-small}
 use Rattle.lattice.proofs.LatticeLaws.{first-real}
 use Rattle.frame.specs.Frame.{columns_of, rows_of, west, east, south, north}
@@ -44,9 +45,6 @@ module _ (h : Header) (obeys : header_obeys h ≡ true) where
 
 -- the numbers of the machine
 module _ {first : ℤ} {index step : ℕ} (a : PlaceAsked first index step) where
-  pub index-small : index < 2 ^ 63
-  index-small = omega (arith, a.index-most)
-
   pub step_fits : step < 2 ^ 63
   step_fits = omega (arith, a.step_small)
 
@@ -58,3 +56,8 @@ module _ {first : ℤ} {index step : ℕ} (a : PlaceAsked first index step) wher
 
   pub first_back : to_z w64 (of_z w64 first) ≡ first
   first_back = to_z-of_z {w = w64} (size_fits first (omega (arith, a.first_small)))
+
+-- the first multiple, as the lattice that was given carries it
+pub first-carried : (a b : ℤ) {spacing index : ℕ} (l : Lattice) → l ≡ lattice_of a b spacing
+    → PlaceAsked (lattice_of a b spacing).first index spacing → to_z w64 (of_z w64 l.first) ≡ (lattice_of a b spacing).first
+first-carried a b l e p = ap (λ (k : Lattice). to_z w64 (of_z w64 k.first)) e ∙ first_back p

@@ -11,12 +11,13 @@ use Rattle.frame.specs.declared.Header.{Header}
 use Rattle.heading.specs.Heading.{header_of}
 use Rattle.written.specs.Cells.{block_count}
 use Rattle.written.specs.Sending.{Objection, objection, sheet_objection, count_of, sent_text, sent_by, sheet_sent_objection, sheet_after}
-use Rattle.columns.specs.declared.judging.Judged.TheVariants.{Good, Bad}
+use Rattle.columns.specs.Judging.Judged.{Good, Bad}
 use Rattle.columns.specs.Judging.{judged_by}
-use Rattle.written.specs.declared.Sent.{Sent}
-use Rattle.written.specs.declared.Sent.TheVariants.{Refused}
+use Rattle.columns.proofs.Verdicts.{judged-bad}
+use Rattle.written.specs.Sending.{Sent}
+use Rattle.written.specs.Sending.Sent.{Refused}
 use Rattle.send.specs.WholeSteps.{whole_text, room_objection}
-use Rattle.send.proofs.AnswerLaws.{judged-bad, good-header, good-fine, good-count}
+use Rattle.send.proofs.AnswerLaws.{good-header, good-fine, good-count}
 use Rattle.send.proofs.WholeText.{whole_is}
 
 module _ (template : List ℕ) (grid : List ℤ) where

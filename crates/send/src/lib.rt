@@ -4,23 +4,23 @@ mod one_block;
 mod whole_sheet;
 
 ghost use Rattle.std.specs.Prelude.{◌≡◌, length};
-ghost use Rattle.written.specs.Sending.{block_objection, block_after, count_of, sent_by, sheet_sent_objection, sheet_after};
+ghost use Rattle.written.specs.Sending.{block_objection, block_after, count_of, sent_by, sent_told, sheet_sent_objection, sheet_after};
 ghost use Rattle.send.specs.SendSteps.{ZeroAsked};
 ghost use Rattle.send.specs.AnswerSteps.{LaterAsked, later_block, count_objection, numbered};
 
 use columns::judging;
-use columns::judging::Judged;
 use frame::Header;
-use written::Sent;
+use kinds::Kind;
+use one_block::Profile;
+use written::Refused;
 
 // How many blocks a template and grid have; 0 where they are refused. So a caller can loop without provoking a refusal.
 pub fn block_count(template: &[u8], grid: &[i32]) -> u64
     ensures { result ≡ count_of template.now grid.now }
 {
-    let judged = judging::judge_sheet(template, grid);
-    match judged {
-        Judged::Bad(_kind, _number) => 0,
-        Judged::Good(h) => census::count_of(h, grid),
+    match judging::judge_sheet(template, grid) {
+        Ok(h) => census::count_of(h, grid),
+        Err(_) => 0,
     }
 }
 
@@ -30,49 +30,58 @@ fn write_later(h: Header, grid: &[i32], number: u64, block: &mut [u8])
     ensures { block.new ≡ later_block h grid.now number }
 {
     let found = census::find_column(h, grid, number);
-    let k = number - found.start;
-    one_block::write_profile_block(h, grid, found.column, found.row, found.posts, k, block);
+    let profile = Profile {
+        column: found.column,
+        row: found.row,
+        posts: found.posts,
+    };
+    one_block::write_profile_block(h, grid, profile, number - found.start, block);
 }
 
 // "14 number not below the sheet's block count (that count)", or the block.
-fn write_number(template: &[u8], h: Header, grid: &[i32], number: u64, block: &mut [u8]) -> Sent
+fn write_number(
+    template: &[u8],
+    h: Header,
+    grid: &[i32],
+    number: u64,
+    block: &mut [u8],
+) -> Result<(), Refused>
     requires { ZeroAsked template.now h grid.now block.old }
-    ensures { (result ≡ sent_by (count_objection h grid.now number)) × (block.new ≡ numbered template.now h grid.now number block.old) }
+    ensures { (sent_told result ≡ sent_by (count_objection h grid.now number)) × (block.new ≡ numbered template.now h grid.now number block.old) }
 {
     let count = census::count_of(h, grid);
     if count <= number {
-        return Sent::Refused(14, count);
+        return Err(Refused::of(Kind::Number, count));
     }
     if number == 0 {
         title::write_title(template, h, grid, block);
-        return Sent::Written;
+    } else {
+        write_later(h, grid, number, block);
     }
-    write_later(h, grid, number, block);
-    Sent::Written
+    Ok(())
 }
 
 // One block of the sheet into the lent block; a refusal leaves it as it was.
-pub fn write_block(template: &[u8], grid: &[i32], number: u64, block: &mut [u8]) -> Sent
-    ensures { (result ≡ sent_by (block_objection template.now grid.now number (length block.old))) × (block.new ≡ block_after template.now grid.now number block.old) }
+pub fn write_block(
+    template: &[u8],
+    grid: &[i32],
+    number: u64,
+    block: &mut [u8],
+) -> Result<(), Refused>
+    ensures { (sent_told result ≡ sent_by (block_objection template.now grid.now number (length block.old))) × (block.new ≡ block_after template.now grid.now number block.old) }
 {
     if block.len() != 1024 {
-        return Sent::Refused(1, 0);
+        return Err(Refused::of(Kind::Length, 0));
     }
-    let judged = judging::judge_sheet(template, grid);
-    match judged {
-        Judged::Bad(kind, n) => Sent::Refused(kind, n),
-        Judged::Good(h) => write_number(template, h, grid, number, block),
-    }
+    let h = judging::judge_sheet(template, grid)?;
+    write_number(template, h, grid, number, block)
 }
 
 // The whole sheet into one lent buffer of block_count × 1,024 bytes: write_block's blocks, one behind the other (proofs/WholeBlocks).
 // The sheet is judged and counted once. A refusal leaves the buffer as it was.
-pub fn write_sheet(template: &[u8], grid: &[i32], out: &mut [u8]) -> Sent
-    ensures { (result ≡ sent_by (sheet_sent_objection template.now grid.now (length out.old))) × (out.new ≡ sheet_after template.now grid.now out.old) }
+pub fn write_sheet(template: &[u8], grid: &[i32], out: &mut [u8]) -> Result<(), Refused>
+    ensures { (sent_told result ≡ sent_by (sheet_sent_objection template.now grid.now (length out.old))) × (out.new ≡ sheet_after template.now grid.now out.old) }
 {
-    let judged = judging::judge_sheet(template, grid);
-    match judged {
-        Judged::Bad(kind, n) => Sent::Refused(kind, n),
-        Judged::Good(h) => whole_sheet::write_fitting(template, h, grid, out),
-    }
+    let h = judging::judge_sheet(template, grid)?;
+    whole_sheet::write_fitting(template, h, grid, out)
 }

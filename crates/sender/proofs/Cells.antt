@@ -6,11 +6,11 @@ use native.Mathlib.Numerals.{add-one}
 use lib.ListN.{length, get_or, drop, take, set, length-set}
 use lib.Seq.{drop-cons, take-suc-set, append_snoc, drop-length, take-length}
 use native.Mathlib.Omega.{arith}
-use borrow.Author.Tests.{lt-leb, le-leb, ne_eqb, eq-eqb}
+use borrow.Author.Tests.{lt-leb, le-leb, eq-eqb}
 use lib.IntN.{ℤ}
 use Rattle.words.specs.Words.{cell_at}
 use Rattle.sender.specs.Input.{cells_from, count_of}
-use Rattle.sender.specs.declared.input.Cells.TheVariants.{Bad, Count}
+use Rattle.std.specs.Prelude.{Some, None}
 
 next : (text : List ℕ) (j k : ℕ) → k ≡ j + 1 → j < length text → drop j text ≡ get_or text j 0 ∷ drop k text
 next text j k e h = drop-cons text j 0 h ∙ ap (λ (i : ℕ). get_or text j 0 ∷ drop i text) (sym (e ∙ add-one j))
@@ -39,16 +39,13 @@ cells-many (suc n) (a ∷ (b ∷ (c ∷ []))) h = absurd (omega arith)
 cells-many (suc n) (a ∷ (b ∷ (c ∷ (d ∷ rest)))) h = ap suc (cells-many n rest (omega arith))
 
 -- the tests of `good_input`, one after the other
-pub too_many : (text : List ℕ) → 60000 < length text → count_of text ≡ Bad
+pub too_many : (text : List ℕ) → 60000 < length text → count_of text ≡ None
 too_many text h = simp (lt-leb (length text) 60000 h)
-
-pub not-fours : (text : List ℕ) → length text ≤ 60000 → (length text % 4 ≡ 0 → ⊥) → count_of text ≡ Bad
-not-fours text h k = simp (le-leb (length text) 60000 h, ne_eqb (length text % 4) 0 k)
 
 pub all-fours : (text : List ℕ) → length text % 4 ≡ 0 → length text ≡ 4 * (length text / 4)
 all-fours text k = omega arith
 
-pub good-count : (text : List ℕ) → length text ≤ 60000 → length text % 4 ≡ 0 → count_of text ≡ Count (length text / 4)
+pub good-count : (text : List ℕ) → length text ≤ 60000 → length text % 4 ≡ 0 → count_of text ≡ Some (length text / 4)
 good-count text h k =
     simp (le-leb (length text) 60000 h, eq-eqb (length text % 4) 0 k, cells-many (length text / 4) text (all-fours text k))
 
@@ -57,9 +54,6 @@ pub record Decoding (text : List ℕ) (grid₀ grid : List ℤ) (i : ℕ) : Type
   pub many : length grid ≡ length grid₀
   pub inside : i ≤ length grid
   pub so_far : take i grid ++ cells_from (drop (4 * i) text) ≡ cells_from text
-
-pub decoding-start : {text : List ℕ} {grid : List ℤ} → Decoding text grid grid 0
-decoding-start = record { many = refl; inside = omega arith; so_far = refl }
 
 pub decoding-turn : {text : List ℕ} {grid₀ grid : List ℤ} {i : ℕ}
     → Decoding text grid₀ grid i

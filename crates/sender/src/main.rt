@@ -3,12 +3,9 @@
 mod input;
 mod output;
 
-ghost use Rattle.std.specs.Prelude.{◌≡◌, ◌*◌, ◌≤◌, length};
+ghost use Rattle.std.specs.Prelude.{◌≡◌};
 ghost use Rattle.written.specs.Sending.{sheet_after};
-ghost use Rattle.sender.specs.Input.{cells_from, bytes_of};
-
-use input::Cells;
-use written::Sent;
+ghost use Rattle.sender.specs.Input.{bytes_of};
 
 // The open file that a program reads.
 const STDIN_FILENO: i32 = 0;
@@ -31,10 +28,13 @@ fn bytes_of(count: u64) -> usize
 fn send_into(template: &[u8], grid: &[i32], out: &mut [u8])
     ensures { out.new ≡ sheet_after template.now grid.now out.old }
 {
-    let sent = send::write_sheet(template, grid, out);
-    match sent {
-        Sent::Written => output::write_bytes(out),
-        Sent::Refused(kind, number) => output::write_refusal(kind, number),
+    match send::write_sheet(template, grid, out) {
+        Ok(()) => output::write_bytes(out),
+        Err(refused) => {
+            let kind = refused.kind.number();
+            let number = refused.number;
+            output::write_line(format_args!("refused {kind} {number}"));
+        }
     }
 }
 
@@ -46,7 +46,7 @@ fn send_from(template: &[u8], grid: &[i32], room: &mut [u8]) {
     }
 }
 
-// Lent as an array first: the prover takes so long an array as a slice only behind a reference.
+// Kept: lent as an array first, since the prover takes so long an array as a slice only behind a reference.
 fn send_room(template: &[u8], grid: &[i32], room: &mut [u8; 2098176]) {
     send_from(template, grid, room);
 }
@@ -56,29 +56,16 @@ fn send_sheet(template: &[u8], grid: &[i32]) {
     send_room(template, grid, &mut room);
 }
 
-fn send_cells(template: &[u8], text: &[u8], grid: &mut [i32])
-    requires { length text.now ≡ 4 * length grid.old }
-    ensures { grid.new ≡ cells_from text.now }
-{
-    input::decode(text, grid);
-    send_sheet(template, grid);
-}
-
-fn lend_grid(template: &[u8], text: &[u8], cells: usize)
-    requires text_len { length text.now ≡ 4 * cells }
-    requires cells_bound { cells ≤ 15000 }
-{
-    let mut grid = [0i32; 15000];
-    send_cells(template, text, &mut grid[..cells]);
-}
-
 // The input's two parts, as far as they could be read.
 fn run(template: &[u8], text: &[u8]) {
-    let cells = input::count_cells(text);
-    match cells {
-        Cells::Count(n) => lend_grid(template, text, n),
-        Cells::Bad => output::write_bad(),
-    }
+    let Some(cells) = input::count_cells(text) else {
+        output::write_line("bad input");
+        return;
+    };
+    let mut grid = [0i32; 15000];
+    let grid = &mut grid[..cells];
+    input::decode(text, grid);
+    send_sheet(template, grid);
 }
 
 // Four bytes more than the most cells take are read: that shows an input of too many.

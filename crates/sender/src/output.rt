@@ -1,24 +1,25 @@
 // What sender writes.
+use std::fmt;
+use std::fmt::Write;
 
 // The open file that a program writes to.
 const STDOUT_FILENO: i32 = 1;
 
+#[derive(Drop)]
+struct Output;
+
+impl fmt::Write for Output {
+    fn write_str(&mut self, text: &str) -> fmt::Result {
+        write_bytes(text.as_bytes());
+        Ok(())
+    }
+}
+
+// Nobody could be told of a line that cannot be written.
+pub(crate) fn write_line<D: fmt::Display + Drop>(line: D) {
+    let _ = Output.writeln(line);
+}
+
 pub(crate) fn write_bytes(bytes: &[u8]) {
     io::write_all(STDOUT_FILENO, bytes);
-}
-
-fn write_number(n: u64) {
-    io::print_decimal(STDOUT_FILENO, n);
-}
-
-pub(crate) fn write_bad() {
-    write_bytes(b"bad input\n");
-}
-
-pub(crate) fn write_refusal(kind: u32, number: u64) {
-    write_bytes(b"refused ");
-    write_number(kind as u64);
-    write_bytes(b" ");
-    write_number(number);
-    write_bytes(b"\n");
 }

@@ -2,31 +2,31 @@
 use mathlib.Core.Bool.{Bool, true, false, cond}
 use mathlib.Core.List.{List, [], ◌∷◌}
 use mathlib.Core.Path.{◌≡◌, refl, sym, ◌∙◌, ap}
-use Prim.Native.Nat.{ℕ, zero, suc, ◌<◌, ◌≤◌}
+use Prim.Native.Nat.{ℕ, zero, suc, ◌<◌}
 use native.Mathlib.Nat.{le_of_suc-le-suc, not-suc-le-zero}
-use borrow.Author.Tests.{eqb-true, eqb-false, eq-eqb, ne_eqb, leb-true, ltb-true}
-use lib.Dec.{eqb, leb, ltb, lit<}
+use borrow.Author.Tests.{eqb-true, eqb-false, eq-eqb, ne_eqb}
+use lib.Dec.{eqb, lit<}
 use lib.ListN.{length, get_or}
 use native.Mathlib.Omega.{arith}
 use lib.IntN.{ℤ, pos}
 use Rattle.laws.specs.Family.{known, is_canadian}
 use Rattle.laws.specs.Sign.{not_negative}
 use Rattle.laws.proofs.Tests.{by-test}
-use Rattle.number.specs.declared.Reading.{Reading}
+use Rattle.number.specs.Reading.{Reading}
 use Rattle.number.specs.Integer.{integer}
 use Rattle.number.specs.Real.{real}
 use Rattle.field.specs.Field.{ranged, stretch, whole_at}
-use Rattle.field.specs.declared.Fault.{Fault}
-use Rattle.field.specs.declared.Limits.{Limits}
+use Rattle.field.specs.Field.{Fault}
+use Rattle.field.specs.Field.{Limits}
 use Rattle.field.proofs.Ranges.{ranged-value}
 use Rattle.frame.specs.Frame.{family_fault}
 use Rattle.heading.specs.Heading.{Name, limits_of, family_limits, spacing_at, header_of}
 use Rattle.heading.specs.Heading.Name.{level, system, zone, ground, vertical, accuracy, spacing, height, profiles}
 use Rattle.heading.proofs.LimitKinds.{family-kind}
-use Rattle.sheet.specs.RecordA.{Row, judge, judge_row, first_fault, row, canadian_front, usgs_front, back, front_of, fields_fault, corner_told, record_of}
+use Rattle.sheet.specs.RecordA.{Row, judge, judge_row, first_fault, row, canadian_front, back, front_of, fields_fault, corner_told, record_of}
 use Rattle.sheet.specs.RecordA.Rule.{words, spaced}
-use Rattle.sheet.specs.RecordASteps.{row_at, place_in, place_of, row_from, number_from, header_from}
-use Rattle.sheet.specs.declared.Checked.TheVariants.{Sheet, Refused}
+use Rattle.sheet.specs.RecordASteps.{AllRead, place_in, place_of, number_from, header_from}
+use Rattle.sheet.specs.RecordA.Checked.{Sheet, Refused}
 use Rattle.sheet.proofs.RowRules.{kind_of}
 use Rattle.sheet.proofs.TableA.{fault-append}
 
@@ -77,19 +77,20 @@ unfolding back
 field-fine family block z first h = rows-fine family block back (row 0 0 words) (back-fine family block z) (place_in first back) h
 
 module _ (family : ℕ) (block : List ℕ) (values : List ℤ) (z : (fields_fault family block).kind ≡ 0)
-    (read : (i : ℕ) → 13 ≤ i → i < 53 → get_or values i (pos 0) ≡ (judge_row family block (row_at i)).value) where
+    (read : AllRead family block back values) where
   -- the value of a field of the back
-  value-is : (first : ℕ) → leb 13 (place_of first) ≡ true → ltb (place_of first) 53 ≡ true
-      → get_or values (place_of first) (pos 0) ≡ (judge_row family block (row_from first)).value
-  value-is first g h = read (place_of first) (leb-true 13 (place_of first) g) (ltb-true (place_of first) 53 h)
+  value-is : (first : ℕ) → place_of first < 40 → get_or values (place_of first) (pos 0) ≡ (judge_row family block (back_row first)).value
+  unfolding back
+  value-is first h = read (place_of first) h
 
   -- a number in limits that have a kind
-  number_is : (first : ℕ) (g : leb 13 (place_of first) ≡ true) (h : ltb (place_of first) 53 ≡ true) (l : Limits) (r : Reading)
-      → judge_row family block (row_from first) ≡ ranged l r → (judge_row family block (row_from first)).kind ≡ 0 → (l.kind ≡ 0 → ⊥)
-      → number_from values first ≡ not_negative r.value
-  number_is first g h l r e k n =
+  number_is : (first : ℕ) (h : place_of first < 40) (l : Limits) (r : Reading)
+      → judge_row family block (back_row first) ≡ ranged l r → (l.kind ≡ 0 → ⊥) → number_from values first ≡ not_negative r.value
+  number_is first h l r e n =
       ap not_negative
-      (value-is first g h ∙ ap (λ (x : Reading). x.value) e ∙ ranged-value l r n (ap (λ (x : Reading). x.kind) (sym e) ∙ k))
+      (value-is first h
+      ∙ ap (λ (x : Reading). x.value) e
+      ∙ ranged-value l r n (ap (λ (x : Reading). x.kind) (sym e) ∙ field-fine family block z first h))
 
   abbrev by : Name → Limits
   by name = family_limits family name (whole_at 157 block) (whole_at 535 block)
@@ -97,49 +98,49 @@ module _ (family : ℕ) (block : List ℕ) (values : List ℤ) (z : (fields_faul
   named : (name : Name) → (kind_of name ≡ 0 → ⊥) → (by name).kind ≡ 0 → ⊥
   named name n q = n (sym (family-kind family name (whole_at 157 block) (whole_at 535 block)) ∙ q)
 
-  integer-is : (first : ℕ) (g : leb 13 (place_of first) ≡ true) (h : ltb (place_of first) 53 ≡ true) (name : Name)
-      → judge_row family block (row_from first) ≡ ranged (by name) (integer (stretch first 6 block))
-      → (judge_row family block (row_from first)).kind ≡ 0 → (kind_of name ≡ 0 → ⊥) → number_from values first ≡ whole_at first block
-  integer-is first g h name e k n = number_is first g h (by name) (integer (stretch first 6 block)) e k (named name n)
+  integer-is : (first : ℕ) (h : place_of first < 40) (name : Name)
+      → judge_row family block (back_row first) ≡ ranged (by name) (integer (stretch first 6 block))
+      → (kind_of name ≡ 0 → ⊥) → number_from values first ≡ whole_at first block
+  integer-is first h name e n = number_is first h (by name) (integer (stretch first 6 block)) e (named name n)
 
-  spacing-is : (first : ℕ) (g : leb 13 (place_of first) ≡ true) (h : ltb (place_of first) 53 ≡ true) (name : Name)
-      → judge_row family block (row_from first) ≡ ranged (by name) (real (stretch first 12 block))
-      → (judge_row family block (row_from first)).kind ≡ 0 → (kind_of name ≡ 0 → ⊥) → number_from values first ≡ spacing_at first block
-  spacing-is first g h name e k n = number_is first g h (by name) (real (stretch first 12 block)) e k (named name n)
+  spacing-is : (first : ℕ) (h : place_of first < 40) (name : Name)
+      → judge_row family block (back_row first) ≡ ranged (by name) (real (stretch first 12 block))
+      → (kind_of name ≡ 0 → ⊥) → number_from values first ≡ spacing_at first block
+  spacing-is first h name e n = number_is first h (by name) (real (stretch first 12 block)) e (named name n)
 
   -- x and y: any real in a Canadian sheet
-  step_is : (first : ℕ) (g : leb 13 (place_of first) ≡ true) (h : ltb (place_of first) 53 ≡ true)
-      → judge_row family block (row_from first)
+  step_is : (first : ℕ) (h : place_of first < 40)
+      → judge_row family block (back_row first)
       ≡ judge family spaced (whole_at 157 block) (whole_at 535 block) (stretch first 12 block)
-      → (judge_row family block (row_from first)).kind ≡ 0 → number_from values first ≡ spacing_at first block
-  step_is first g h e k =
+      → number_from values first ≡ spacing_at first block
+  step_is first h e =
       by-test (is_canadian family)
-      (λ c. ap not_negative (value-is first g h ∙ ap (λ (x : Reading). x.value) (rw c at e)))
+      (λ c. ap not_negative (value-is first h ∙ ap (λ (x : Reading). x.value) (rw c at e)))
       (λ c.
-      number_is first g h (limits_of spacing (whole_at 157 block) (whole_at 535 block)) (real (stretch first 12 block)) (rw c at e) k
+      number_is first h (limits_of spacing (whole_at 157 block) (whole_at 535 block)) (real (stretch first 12 block)) (rw c at e)
       (λ q. omega arith))
 
   pub header_is : header_from values ≡ header_of block
-  unfolding canadian_front usgs_front back header_of
+  unfolding back header_of
   header_is =
       λ j.
       record {
-        level = integer-is 145 refl refl level refl (field-fine family block z 145 (lit< tt)) (λ q. omega arith) j;
-        system = integer-is 157 refl refl system refl (field-fine family block z 157 (lit< tt)) (λ q. omega arith) j;
-        zone = integer-is 163 refl refl zone refl (field-fine family block z 163 (lit< tt)) (λ q. omega arith) j;
-        ground = integer-is 529 refl refl ground refl (field-fine family block z 529 (lit< tt)) (λ q. omega arith) j;
-        vertical = integer-is 535 refl refl vertical refl (field-fine family block z 535 (lit< tt)) (λ q. omega arith) j;
-        sw = record { x = value-is 547 refl refl j; y = value-is 571 refl refl j };
-        nw = record { x = value-is 595 refl refl j; y = value-is 619 refl refl j };
-        ne = record { x = value-is 643 refl refl j; y = value-is 667 refl refl j };
-        se = record { x = value-is 691 refl refl j; y = value-is 715 refl refl j };
-        least = value-is 739 refl refl j;
-        greatest = value-is 763 refl refl j;
-        accuracy = integer-is 811 refl refl accuracy refl (field-fine family block z 811 (lit< tt)) (λ q. omega arith) j;
-        xstep = step_is 817 refl refl refl (field-fine family block z 817 (lit< tt)) j;
-        ystep = step_is 829 refl refl refl (field-fine family block z 829 (lit< tt)) j;
-        zstep = spacing-is 841 refl refl height refl (field-fine family block z 841 (lit< tt)) (λ q. omega arith) j;
-        profiles = integer-is 859 refl refl profiles refl (field-fine family block z 859 (lit< tt)) (λ q. omega arith) j;
+        level = integer-is 145 (lit< tt) level refl (λ q. omega arith) j;
+        system = integer-is 157 (lit< tt) system refl (λ q. omega arith) j;
+        zone = integer-is 163 (lit< tt) zone refl (λ q. omega arith) j;
+        ground = integer-is 529 (lit< tt) ground refl (λ q. omega arith) j;
+        vertical = integer-is 535 (lit< tt) vertical refl (λ q. omega arith) j;
+        sw = record { x = value-is 547 (lit< tt) j; y = value-is 571 (lit< tt) j };
+        nw = record { x = value-is 595 (lit< tt) j; y = value-is 619 (lit< tt) j };
+        ne = record { x = value-is 643 (lit< tt) j; y = value-is 667 (lit< tt) j };
+        se = record { x = value-is 691 (lit< tt) j; y = value-is 715 (lit< tt) j };
+        least = value-is 739 (lit< tt) j;
+        greatest = value-is 763 (lit< tt) j;
+        accuracy = integer-is 811 (lit< tt) accuracy refl (λ q. omega arith) j;
+        xstep = step_is 817 (lit< tt) refl j;
+        ystep = step_is 829 (lit< tt) refl j;
+        zstep = spacing-is 841 (lit< tt) height refl (λ q. omega arith) j;
+        profiles = integer-is 859 (lit< tt) profiles refl (λ q. omega arith) j;
       }
 
 -- ---- the verdict, by what the code found

@@ -3,4 +3,5 @@ pub mod RowRules
 pub mod HeaderA
 pub mod RulesA
 pub mod SheetObeys
+pub mod OneTold
 pub mod OneAnswer

@@ -13,7 +13,7 @@ use Rattle.laws.specs.Sign.{◌and◌}
 use Rattle.laws.proofs.Tests.{by-test, and_first, and_second}
 use Rattle.laws.proofs.Tables.{all}
 use Rattle.laws.proofs.Families.{each-family}
-use Rattle.field.specs.declared.Fault.{Fault}
+use Rattle.field.specs.Field.{Fault}
 use Rattle.field.specs.Field.{fault}
 use Rattle.field.specs.Rules.{Clause, KeepsAll, FirstBroken, Pointed}
 use Rattle.field.proofs.Rules.{named, broken_or, first-append, kept-or-broken, keeps-first, broken-first, broken-named}
@@ -25,7 +25,7 @@ use Rattle.frame.specs.declared.Header.{Header}
 use Rattle.heading.specs.Heading.{header_of}
 use Rattle.sheet.specs.RulesA.{rules_a, whole_rules, rules_canadian, canadian_whole, rules_for}
 use Rattle.sheet.specs.RecordA.{canadian_front, usgs_front, back, fields_of, fields_fault, Row, judge_row, first_fault, corner_told, whole_of, fault_of, record_of}
-use Rattle.sheet.specs.declared.Checked.TheVariants.{Sheet, Refused}
+use Rattle.sheet.specs.RecordA.Checked.{Sheet, Refused}
 use Rattle.sheet.proofs.RowRules.{clauses_of, field_clauses, suits, rule-says, other_kind, rule-forms}
 use Rattle.sheet.proofs.HeaderA.{verdict-length}
 

@@ -10,12 +10,12 @@ use native.Mathlib.Omega.{arith}
 use Rattle.laws.specs.Family.{known, is_canadian}
 use Rattle.laws.specs.Sign.{not_negative}
 use Rattle.laws.proofs.Tests.{and_both, by-test}
-use Rattle.number.specs.declared.Reading.{Reading}
+use Rattle.number.specs.Reading.{Reading}
 use Rattle.number.specs.Integer.{integer}
 use Rattle.number.specs.Real.{real}
 use Rattle.number.proofs.Limits.{Limited, real-limits}
 use Rattle.field.specs.Field.{stretch, in_range, ranged, whole_at, real_at}
-use Rattle.field.specs.declared.Limits.{Limits}
+use Rattle.field.specs.Field.{Limits}
 use Rattle.field.proofs.Ranges.{range-read}
 use Rattle.frame.specs.Frame.{whole_fault, canadian_fault, family_fault}
 use Rattle.frame.specs.declared.Header.{Header}
@@ -24,7 +24,7 @@ use Rattle.heading.specs.Heading.Name.{level, system, zone, ground, vertical, ac
 use Rattle.heading.proofs.LimitKinds.{family-kind}
 use Rattle.sheet.specs.RecordA.{back, judge, fields_fault, record_of, record_a}
 use Rattle.sheet.specs.RecordA.Rule.{spaced}
-use Rattle.sheet.specs.declared.Checked.TheVariants.{Sheet}
+use Rattle.sheet.specs.RecordA.Checked.{Sheet}
 use Rattle.sheet.proofs.RowRules.{kind_of}
 use Rattle.sheet.proofs.HeaderA.{field-fine}
 use Rattle.sheet.proofs.RulesA.{sheet-header, sheet-fine, sheet-whole}

@@ -1,21 +1,21 @@
 -- Document 01, "Record A (block 0)", and 02, request 2: the table of its fields, what breaks one, and the verdict on a block, of either family.
-use Rattle.std.specs.Prelude.{Bool, cond, List, [], ◌∷◌, ◌++◌, ℕ, eqb, pos, length}
+use Rattle.std.specs.Prelude.{Result, Ok, Err, Bool, cond, List, [], ◌∷◌, ◌++◌, ℕ, eqb, pos, length}
 use Rattle.laws.specs.Family.{known, is_canadian}
 use Rattle.laws.specs.Sign.{implies}
 use Rattle.laws.specs.Texts.{every}
 use Rattle.number.specs.Bytes.{is_blank}
 use Rattle.number.specs.Integer.{integer, read, refused}
 use Rattle.number.specs.Real.{real}
-use Rattle.number.specs.declared.Reading.{Reading}
+use Rattle.number.specs.Reading.{Reading}
 use Rattle.field.specs.Field.{is_word, is_text, stretch, whole_at, real_at, ranged, fault, fault_or}
-use Rattle.field.specs.declared.Fault.{Fault}
+use Rattle.field.specs.Field.{Fault}
 use Rattle.frame.specs.declared.Header.{Header}
 use Rattle.frame.specs.Frame.{family_fault}
 use Rattle.corner.specs.Corner.{says_corner}
 use Rattle.heading.specs.Heading.{Name, limits_of, family_limits, header_of}
 use Rattle.heading.specs.Heading.Name.{level, pattern, system, zone, ground, vertical, sides, angle, accuracy, spacing, height, rank, profiles, minutes, seconds}
-use Rattle.sheet.specs.declared.Checked.{Checked}
-use Rattle.sheet.specs.declared.Checked.TheVariants.{Sheet, Refused}
+use Rattle.field.specs.declared.Broken.{Broken}
+use Rattle.kinds.specs.Kinds.{number_of}
 
 -- ---- the fields
 
@@ -158,8 +158,17 @@ fault_of family block =
     (fault 1 0)
 
 -- the cases of the answer, with document 01's kind and byte
+pub data Checked : Type 0 where
+  Sheet : Header → Checked
+  Refused : ℕ → ℕ → Checked
+
 abbrev pub checked_by : Fault → Header → Checked
-checked_by f h = cond (eqb f.kind 0) (Sheet h) (Refused f.kind f.byte)
+checked_by f h = cond (eqb f.kind 0) (Checked.Sheet h) (Checked.Refused f.kind f.byte)
+
+-- and as the code answers it
+abbrev pub checked_told : Result Header Broken → Checked
+checked_told (Ok h) = Checked.Sheet h
+checked_told (Err b) = Checked.Refused (number_of b.kind) b.byte
 
 unfoldable pub record_of : ℕ → List ℕ → Checked
 record_of family block = checked_by (fault_of family block) (header_of block)
@@ -170,9 +179,9 @@ record_a block = record_of 0 block
 
 -- the numbers of each case: kind 0 and byte 0 for a good record
 abbrev pub checked_kind : Checked → ℕ
-checked_kind (Sheet h) = 0
-checked_kind (Refused kind byte) = kind
+checked_kind (Checked.Sheet h) = 0
+checked_kind (Checked.Refused kind byte) = kind
 
 abbrev pub checked_byte : Checked → ℕ
-checked_byte (Sheet h) = 0
-checked_byte (Refused kind byte) = byte
+checked_byte (Checked.Sheet h) = 0
+checked_byte (Checked.Refused kind byte) = byte

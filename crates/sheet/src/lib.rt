@@ -1,302 +1,230 @@
 #![tactic(auto)]
-// Record A judged whole: document 01, "Record A (block 0)", and 02, request 2. The table of fields stands in arrays, one entry for each row.
-ghost use Rattle.std.specs.Prelude.{true, ◌≡◌, ◌<◌, ◌≤◌, length};
-ghost use Rattle.laws.specs.Family.{known, is_canadian};
+// Record A judged whole: document 01, "Record A (block 0)", and 02, request 2. The table of its fields stands as the paper has it, a row for each field.
+ghost use Rattle.std.specs.Prelude.{◌≡◌, ◌≤◌, length, map, IfOk};
+ghost use Rattle.laws.specs.Family.{is_canadian};
 ghost use Rattle.laws.specs.Sign.{implies};
 ghost use Rattle.corner.specs.Corner.{says_corner};
-ghost use Rattle.sheet.specs.RecordA.{record_a, record_of, judge, judge_row};
-ghost use Rattle.sheet.specs.RecordA.Rule.{form};
-ghost use Rattle.sheet.specs.RecordASteps.{row_at, code_of, name_of, text_kept, judge_text, judge_number, judge_by, front_from, front_to, Begun, Walked, Judged, place_of, value_from, number_from, corner_from, header_from};
+ghost use Rattle.sheet.specs.RecordA.{record_a, record_of, checked_told, judge, judge_row, front_of, back, fields_fault};
+ghost use Rattle.field.specs.Told.{fault_told, limits_told};
+ghost use Rattle.heading.specs.Heading.{family_limits};
+ghost use Rattle.heading.specs.Steps.{named};
+ghost use Rattle.number.specs.Reading.{said};
+ghost use Rattle.sheet.specs.RecordA.Rule.{form, spaced};
+ghost use Rattle.sheet.specs.RecordASteps.{ruled, row_told, text_kept, Inside, AllInside, Begun, Walked, AllRead, place_of, value_from, number_from, corner_from, header_from};
 
-use field::{Fault, Limits};
+use field::{Bounds, Broken};
 use frame::{Corner, Header};
-use number::Reading;
+use heading::Name;
+use kinds::Kind;
+use number::Unread;
 
-#[derive(Drop)]
-pub enum Checked {
-    Sheet(Header),
-    Refused(u32, u32),
+// What a field must be: text without lower case, text that may have it, blanks; a real's form only; any real; any integer; an x or y
+// spacing; an integer, or a real, in the limits of a name.
+#[derive(Clone, Copy)]
+enum Rule {
+    Words,
+    Mixed,
+    Filler,
+    Form,
+    Free,
+    Plain,
+    Spaced,
+    Whole(Name),
+    Stepped(Name),
 }
 
-const FIRST: [usize; 53] = [
-    1, 41, 101, 110, 114, 116, 123, 127, 129, 136, 137, 138, 1, 145, 151, 157, 163, 169, 193, 217,
-    241, 265, 289, 313, 337, 361, 385, 409, 433, 457, 481, 505, 529, 535, 541, 547, 571, 595, 619,
-    643, 667, 691, 715, 739, 763, 787, 811, 817, 829, 841, 853, 859, 865,
+// A field: its first byte, counted from 1, its width and its rule.
+#[derive(Clone, Copy)]
+struct Row(usize, usize, Rule);
+
+// Record A's table: the front of a Canadian sheet, that of a USGS one, and the back of either.
+const CANADIAN_FRONT: [Row; 12] = [
+    Row(1, 40, Rule::Mixed),
+    Row(41, 60, Rule::Mixed),
+    Row(101, 9, Rule::Filler),
+    Row(110, 4, Rule::Plain),
+    Row(114, 2, Rule::Whole(Name::Minutes)),
+    Row(116, 7, Rule::Stepped(Name::Seconds)),
+    Row(123, 4, Rule::Plain),
+    Row(127, 2, Rule::Whole(Name::Minutes)),
+    Row(129, 7, Rule::Stepped(Name::Seconds)),
+    Row(136, 1, Rule::Words),
+    Row(137, 1, Rule::Filler),
+    Row(138, 7, Rule::Words),
 ];
 
-const WIDTH: [usize; 53] = [
-    40, 60, 9, 4, 2, 7, 4, 2, 7, 1, 1, 7, 144, 6, 6, 6, 6, 24, 24, 24, 24, 24, 24, 24, 24, 24, 24,
-    24, 24, 24, 24, 24, 6, 6, 6, 24, 24, 24, 24, 24, 24, 24, 24, 24, 24, 24, 6, 12, 12, 12, 6, 6,
-    160,
+const USGS_FRONT: [Row; 1] = [Row(1, 144, Rule::Words)];
+
+const BACK: [Row; 40] = [
+    Row(145, 6, Rule::Whole(Name::Level)),
+    Row(151, 6, Rule::Whole(Name::Pattern)),
+    Row(157, 6, Rule::Whole(Name::System)),
+    Row(163, 6, Rule::Whole(Name::Zone)),
+    Row(169, 24, Rule::Form),
+    Row(193, 24, Rule::Form),
+    Row(217, 24, Rule::Form),
+    Row(241, 24, Rule::Form),
+    Row(265, 24, Rule::Form),
+    Row(289, 24, Rule::Form),
+    Row(313, 24, Rule::Form),
+    Row(337, 24, Rule::Form),
+    Row(361, 24, Rule::Form),
+    Row(385, 24, Rule::Form),
+    Row(409, 24, Rule::Form),
+    Row(433, 24, Rule::Form),
+    Row(457, 24, Rule::Form),
+    Row(481, 24, Rule::Form),
+    Row(505, 24, Rule::Form),
+    Row(529, 6, Rule::Whole(Name::Ground)),
+    Row(535, 6, Rule::Whole(Name::Vertical)),
+    Row(541, 6, Rule::Whole(Name::Sides)),
+    Row(547, 24, Rule::Free),
+    Row(571, 24, Rule::Free),
+    Row(595, 24, Rule::Free),
+    Row(619, 24, Rule::Free),
+    Row(643, 24, Rule::Free),
+    Row(667, 24, Rule::Free),
+    Row(691, 24, Rule::Free),
+    Row(715, 24, Rule::Free),
+    Row(739, 24, Rule::Free),
+    Row(763, 24, Rule::Free),
+    Row(787, 24, Rule::Stepped(Name::Angle)),
+    Row(811, 6, Rule::Whole(Name::Accuracy)),
+    Row(817, 12, Rule::Spaced),
+    Row(829, 12, Rule::Spaced),
+    Row(841, 12, Rule::Stepped(Name::Height)),
+    Row(853, 6, Rule::Whole(Name::Rank)),
+    Row(859, 6, Rule::Whole(Name::Profiles)),
+    Row(865, 160, Rule::Words),
 ];
-
-// How a field is read: 0 text, 1 text that may have lower case, 2 blanks, 3 a real's form, 4 a real, 5 an integer, 6 an integer in limits,
-// 7 a real in limits, 8 a spacing.
-const CODE: [u8; 53] = [
-    1, 1, 2, 5, 6, 7, 5, 6, 7, 0, 2, 0, 0, 6, 6, 6, 6, 3, 3, 3, 3, 3, 3, 3, 3, 3, 3, 3, 3, 3, 3, 3,
-    6, 6, 6, 4, 4, 4, 4, 4, 4, 4, 4, 4, 4, 7, 6, 8, 8, 7, 6, 6, 0,
-];
-
-// The name of its limits, as `heading` has them; 15 names none.
-const NAME: [usize; 53] = [
-    15,
-    15,
-    15,
-    15,
-    heading::MINUTES,
-    heading::SECONDS,
-    15,
-    heading::MINUTES,
-    heading::SECONDS,
-    15,
-    15,
-    15,
-    15,
-    heading::LEVEL,
-    heading::PATTERN,
-    heading::SYSTEM,
-    heading::ZONE,
-    15,
-    15,
-    15,
-    15,
-    15,
-    15,
-    15,
-    15,
-    15,
-    15,
-    15,
-    15,
-    15,
-    15,
-    15,
-    heading::GROUND,
-    heading::VERTICAL,
-    heading::SIDES,
-    15,
-    15,
-    15,
-    15,
-    15,
-    15,
-    15,
-    15,
-    15,
-    15,
-    heading::ANGLE,
-    heading::ACCURACY,
-    heading::SPACING,
-    heading::SPACING,
-    heading::HEIGHT,
-    heading::RANK,
-    heading::PROFILES,
-    15,
-];
-
-// Where the back begins, which is of either family, and where the table ends. Before the back stand the Canadian front and the USGS one.
-const BACK: usize = 13;
-
-const END: usize = 53;
-
-fn first_byte(i: usize) -> usize
-    requires { i < 53 }
-    ensures { result ≡ (row_at i).first }
-{
-    FIRST[i]
-}
-
-fn width(i: usize) -> usize
-    requires { i < 53 }
-    ensures { result ≡ (row_at i).width }
-{
-    WIDTH[i]
-}
-
-fn code(i: usize) -> u8
-    requires { i < 53 }
-    ensures { result ≡ code_of (row_at i).rule }
-{
-    CODE[i]
-}
-
-fn name(i: usize) -> usize
-    requires { i < 53 }
-    ensures { result ≡ name_of (row_at i).rule }
-{
-    NAME[i]
-}
 
 // A stretch of text or blanks has no number: it is as it must be, or kind 5.
-fn stretch_judged(kept: bool) -> Reading
-    ensures { result ≡ text_kept kept }
+fn stretch_judged(kept: bool) -> Result<i64, Unread>
+    ensures { said result ≡ text_kept kept }
 {
     if kept {
-        return Reading {
-            kind: 0,
-            value: 0,
-            byte: 0,
-        };
+        return Ok(0);
     }
-    Reading {
-        kind: 5,
-        value: 0,
-        byte: 0,
-    }
+    Err(Unread::of(Kind::Stretch))
 }
 
-fn judge_form(field: &[u8]) -> Reading
-    ensures { result ≡ judge 0 form 0 0 field.now }
+fn judge_form(field: &[u8]) -> Result<i64, Unread>
+    ensures { said result ≡ judge 0 form 0 0 field.now }
 {
-    let r = number::read_real(field);
-    if r.kind == 6 {
-        return r;
-    }
-    Reading {
-        kind: 0,
-        value: 0,
-        byte: 0,
+    match number::read_real(field) {
+        Err(u) if u.kind == Kind::Form => Err(u),
+        _ => Ok(0),
     }
 }
 
-fn judge_text(code: u8, field: &[u8]) -> Reading
-    ensures { result ≡ judge_text code field.now }
-{
-    if code == 0 {
-        return stretch_judged(field::all_words(field));
-    }
-    if code == 1 {
-        return stretch_judged(field::all_text(field));
-    }
-    if code == 2 {
-        return stretch_judged(field::blank_from(field, 0));
-    }
-    judge_form(field)
-}
-
-fn judge_number(family: u64, code: u8, l: Limits, field: &[u8]) -> Reading
-    ensures { result ≡ judge_number family code l field.now }
-{
-    if code == 4 {
-        return number::read_real(field);
-    }
-    if code == 5 {
-        return number::read_integer(field);
-    }
-    if code == 6 {
-        return field::read_ranged(l, number::read_integer(field));
-    }
-    if code == 7 {
-        return field::read_ranged(l, number::read_real(field));
-    }
-    if family == 1 {
-        return number::read_real(field);
-    }
-    field::read_ranged(l, number::read_real(field))
-}
-
-fn judge_field(family: u64, code: u8, l: Limits, field: &[u8]) -> Reading
-    ensures { result ≡ judge_by family code l field.now }
-{
-    if code < 4 {
-        return judge_text(code, field);
-    }
-    judge_number(family, code, l, field)
-}
-
-// The field of row i, judged.
-fn judge_at(family: u64, block: &[u8], i: usize, system: u64, vertical: u64) -> Reading
-    requires { (i < 53) × Begun block.now system vertical }
-    ensures { result ≡ judge_row family block.now (row_at i) }
-{
-    let start = first_byte(i) - 1;
-    let end = start + width(i);
-    let l = heading::family_limits(family, name(i), system, vertical);
-    judge_field(family, code(i), l, &block[start..end])
-}
-
-// The first fault by byte of the rows from a place to another; where there is none, their values are left in `values`.
-fn walk(
+// What the limits of a sheet's numbers go by: its family, and the system and the vertical unit that its block says.
+#[derive(Clone, Copy)]
+struct Terms {
     family: u64,
-    block: &[u8],
-    from: usize,
-    to: usize,
     system: u64,
     vertical: u64,
-    values: &mut [i64],
-) -> Fault
-    requires { (from ≤ to) × ((to ≤ 53) × (Begun block.now system vertical × (length values.old ≡ 53))) }
-    ensures { Walked family block.now from to values.new result }
-{
-    let mut i = from;
-    while i < to {
-        let r = judge_at(family, block, i, system, vertical);
-        if r.kind != 0 {
-            return field::fault_or(r, first_byte(i) as u16, field::no_fault());
-        }
-        let value = r.value;
-        values[i] = value;
-        i += 1;
-    }
-    field::no_fault()
 }
 
-fn front_from(family: u64) -> usize
-    ensures { result ≡ front_from family }
+impl Terms {
+    fn limits(self, name: Name) -> Bounds
+        ensures { limits_told result ≡ family_limits self.family (named name) self.system self.vertical }
+    {
+        heading::family_limits(self.family, name, self.system, self.vertical)
+    }
+}
+
+// An x or y spacing: those of a Canadian sheet may be any reals, for their pair is judged over the whole record.
+fn judge_spacing(terms: Terms, field: &[u8]) -> Result<i64, Unread>
+    ensures { said result ≡ judge terms.family spaced terms.system terms.vertical field.now }
+{
+    let read = number::read_real(field);
+    if terms.family == 1 {
+        return read;
+    }
+    field::read_ranged(
+        heading::named_limits(Name::Spacing, terms.system, terms.vertical),
+        read,
+    )
+}
+
+// A field judged by its rule.
+fn judge_field(terms: Terms, rule: Rule, field: &[u8]) -> Result<i64, Unread>
+    ensures { said result ≡ judge terms.family (ruled rule) terms.system terms.vertical field.now }
+{
+    match rule {
+        Rule::Words => stretch_judged(field::all_words(field)),
+        Rule::Mixed => stretch_judged(field::all_text(field)),
+        Rule::Filler => stretch_judged(field::blank_from(field, 0)),
+        Rule::Form => judge_form(field),
+        Rule::Free => number::read_real(field),
+        Rule::Plain => number::read_integer(field),
+        Rule::Spaced => judge_spacing(terms, field),
+        Rule::Whole(name) => field::read_ranged(terms.limits(name), number::read_integer(field)),
+        Rule::Stepped(name) => field::read_ranged(terms.limits(name), number::read_real(field)),
+    }
+}
+
+// The field of a row, judged.
+fn judge_row(terms: Terms, block: &[u8], row: Row) -> Result<i64, Unread>
+    requires { Inside (row_told row) × Begun block.now terms.system terms.vertical }
+    ensures { said result ≡ judge_row terms.family block.now (row_told row) }
+{
+    let Row(first, width, rule) = row;
+    judge_field(terms, rule, &block[first - 1..first - 1 + width])
+}
+
+// The first fault by byte of these rows; where there is none, their values are left in `values`.
+fn walk(terms: Terms, block: &[u8], rows: &[Row], values: &mut [i64]) -> Result<(), Broken>
+    requires { AllInside (map row_told rows.now) × ((length rows.now ≤ length values.old) × Begun block.now terms.system terms.vertical) }
+    ensures { Walked terms.family block.now (map row_told rows.now) values.old values.new (fault_told result) }
+{
+    for (i, row) in rows.iter().enumerate() {
+        let read = judge_row(terms, block, *row);
+        values[i] = field::placed(row.0 as u16, read)?;
+    }
+    Ok(())
+}
+
+fn front_of(family: u64) -> &'static [Row]
+    ensures { map row_told result.now ≡ front_of family }
 {
     if family == 1 {
-        return 0;
+        &CANADIAN_FRONT
+    } else {
+        &USGS_FRONT
     }
-    12
 }
 
-fn front_to(family: u64) -> usize
-    ensures { result ≡ front_to family }
+// A family's front, then the back, whose values the header is made of.
+fn judge_fields(family: u64, block: &[u8]) -> Result<[i64; 40], Broken>
+    requires { length block.now ≡ 1024 }
+    ensures fault { fault_told result ≡ fields_fault family block.now }
+    ensures values { IfOk result (λ values. AllRead family block.now back values) }
 {
-    if family == 1 {
-        return 12;
-    }
-    BACK
+    let terms = Terms {
+        family,
+        system: field::whole_at(block, 157),
+        vertical: field::whole_at(block, 535),
+    };
+    let mut values = [0; 40];
+    walk(terms, block, front_of(family), &mut values)?;
+    walk(terms, block, &BACK, &mut values)?;
+    Ok(values)
 }
 
-// A family's front, then the back.
-fn judge_fields(family: u64, block: &[u8], values: &mut [i64]) -> Fault
-    requires { (known family ≡ true) × ((length block.now ≡ 1024) × (length values.old ≡ 53)) }
-    ensures { Judged family block.now values.new result }
-{
-    let system = field::whole_at(block, 157);
-    let vertical = field::whole_at(block, 535);
-    let from = front_from(family);
-    let to = front_to(family);
-    let f = walk(family, block, from, to, system, vertical, values);
-    if f.kind != 0 {
-        return f;
-    }
-    walk(family, block, BACK, END, system, vertical, values)
-}
-
-// The row of the field that begins at this byte; 53 where there is none.
-fn row_of(first: usize) -> usize
+// The place in the back of the field that begins at this byte; the back's length where there is none.
+fn place_of(first: usize) -> usize
     ensures { result ≡ place_of first }
 {
-    let mut i = 0;
-    while i < 53 {
-        if first_byte(i) == first {
-            return i;
-        }
-        i += 1;
-    }
-    END
+    BACK.iter()
+        .position(|row| row.0 == first)
+        .unwrap_or(BACK.len())
 }
 
 fn value_of(values: &[i64], first: usize) -> i64
     ensures { result ≡ value_from values.now first }
 {
-    let i = row_of(first);
-    if i < values.len() {
-        return values[i];
-    }
-    0
+    values.get(place_of(first)).copied().unwrap_or(0)
 }
 
 fn number_of(values: &[i64], first: usize) -> u64
@@ -341,42 +269,31 @@ fn header_from(values: &[i64]) -> Header
 fn corner_told(family: u64, block: &[u8], h: Header) -> bool
     ensures { result ≡ implies (is_canadian family) (says_corner block.now h.sw.x h.sw.y) }
 {
-    if family == 1 {
-        let sw = h.sw;
-        return corner::says(block, sw.x, sw.y);
-    }
-    true
+    family != 1 || corner::says(block, h.sw.x, h.sw.y)
 }
 
 // A record A of a family judged whole: its header, or the first rule it breaks. Any length and any family is answered.
-pub fn check_family(family: u64, block: &[u8]) -> Checked
-    ensures { result ≡ record_of family block.now }
+pub fn check_family(family: u64, block: &[u8]) -> Result<Header, Broken>
+    ensures { checked_told result ≡ record_of family block.now }
 {
     if block.len() != 1024 {
-        return Checked::Refused(1, 0);
+        return Err(Broken::at(Kind::Length, 0));
     }
     if 2 <= family {
-        return Checked::Refused(2, 0);
+        return Err(Broken::at(Kind::Unsound, 0));
     }
-    let mut values = [0i64; 53];
-    let f = judge_fields(family, block, &mut values);
-    if f.kind != 0 {
-        return Checked::Refused(f.kind, f.byte);
-    }
+    let values = judge_fields(family, block)?;
     let h = header_from(&values);
     if !corner_told(family, block, h) {
-        return Checked::Refused(15, 110);
+        return Err(Broken::at(Kind::Corner, 110));
     }
-    let w = frame::judge_family(family, h);
-    if w.kind != 0 {
-        return Checked::Refused(w.kind, w.byte);
-    }
-    Checked::Sheet(h)
+    frame::judge_family(family, h)?;
+    Ok(h)
 }
 
 // A USGS record A.
-pub fn check_record_a(block: &[u8]) -> Checked
-    ensures { result ≡ record_a block.now }
+pub fn check_record_a(block: &[u8]) -> Result<Header, Broken>
+    ensures { checked_told result ≡ record_a block.now }
 {
     check_family(0, block)
 }

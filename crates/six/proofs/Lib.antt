@@ -1,4 +1,3 @@
 pub mod FromTheEnd
-pub mod Bytes
 pub mod Fronts
 pub mod OneAnswer

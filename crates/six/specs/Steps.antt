@@ -1,9 +1,8 @@
 -- What is known where the digits of a field, read from its last byte back, have ended.
-use Rattle.std.specs.Prelude.{Bool, true, cond, List, ◌≡◌, ℕ, suc, ◌^◌, ◌<◌, length, drop}
+use Rattle.std.specs.Prelude.{Bool, true, cond, List, ◌≡◌, ℕ, suc, ◌^◌, ◌<◌, length, drop, ℤ, Option, IfSome}
 use Rattle.laws.specs.Texts.{every}
 use Rattle.number.specs.Bytes.{is_blank, is_sign, is_digit, number}
 use Rattle.number.specs.Integer.{integer, read}
-use Rattle.six.specs.declared.Six.{Six}
 
 -- what may stand before digits
 abbrev pub is_front : ℕ → Bool
@@ -18,5 +17,5 @@ pub record FrontAsked (s : List ℕ) (k size : ℕ) : Type 0 where
   pub small : size < 2 ^ 63
 
 -- a number found is the field's; where none is found nothing is said
-abbrev pub Finds : List ℕ → Six → Type 0
-Finds s r = r.good ≡ true → integer s ≡ read r.value
+abbrev pub Finds : List ℕ → Option ℤ → Type 0
+Finds s r = IfSome r (λ z. integer s ≡ read z)

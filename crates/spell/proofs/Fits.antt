@@ -5,6 +5,8 @@ use Prim.Native.Nat.{ℕ, ◌≤◌, ◌+◌, ◌-◌, ◌^◌, ◌<◌, ◌*◌
 use borrow.Author.Tests.{leb-true, leb-false, ltb-true, lt-ltb, le-leb, lt-leb}
 use lib.IntN.{ℤ, nat_abs, pos, negsuc}
 use lib.ListN.{length}
+use lib.Signed.{lt_z}
+use mir.Val.{bool_byte}
 use native.Mathlib.Omega.{arith}
 use lib.Dec.{leb, ltb}
 use mathlib.Core.List.{List}
@@ -30,6 +32,10 @@ integer-room width z h = leb-true (length (whole_text z)) width h
 pub integer-length : (width : ℕ) (z : ℤ) → integer_fits width z ≡ true → length (integer_text width z) ≡ width
 unfolding integer_text
 integer-length width z h = justified-length width (whole_text z) (integer-room width z h)
+
+-- a minus takes a byte, where there is one
+pub minus-length : (z : ℤ) → bool_byte (lt_z z (pos 0)) ≡ length (minus z)
+minus-length z = by-test (lt_z z (pos 0)) (λ e. rw e) (λ e. rw e)
 
 -- a number below zero has a size
 minus-size : (z : ℤ) → length (minus z) ≤ nat_abs z

@@ -1,15 +1,13 @@
 -- An integer's bytes from the right: a byte put before those that stand, one more digit, and what stands before the digits.
 use mathlib.Core.Bool.{Bool, true, false, cond}
-use mathlib.Core.List.{List, [], ◌∷◌, ◌++◌, append-nil, append_assoc}
+use mathlib.Core.List.{List, [], ◌∷◌, ◌++◌}
 use mathlib.Core.Path.{◌≡◌, sym, ◌∙◌, ap}
 use Prim.Native.Nat.{ℕ, zero, suc, ◌+◌, ◌-◌, ◌/◌, ◌%◌, ◌^◌, ◌≤◌, ◌<◌}
 use native.Mathlib.Omega.{arith}
 use lib.Dec.{ltb}
-use lib.IntN.{ℤ, pos, nat_abs}
-use lib.Signed.{lt_z}
-use lib.ListN.{length, take, drop, get_or, set, replicate, length-append, length-replicate, length-drop, take-append-drop}
-use lib.Seq.{take-suc, append_snoc, set_at, length-take-le, take-length, drop-cons, drop_at}
-use Rattle.laws.proofs.Tests.{by-test}
+use lib.IntN.{ℤ, nat_abs}
+use lib.ListN.{length, take, drop, get_or, set, replicate, length-append, length-replicate, length-drop}
+use lib.Seq.{take-suc, append_snoc, set_at, length-take-le, drop-cons, drop_at}
 use Rattle.numerals.specs.Numerals.{numeral, minus, count}
 use Rattle.numerals.proofs.Counts.{count-least}
 use Rattle.numerals.proofs.LastDigit.{last-digit}
@@ -18,7 +16,7 @@ use Rattle.numerals.proofs.Spelling.{spell-length}
 use Rattle.spell.specs.RightSteps.{FromRight, filled_before}
 use Rattle.spell.specs.Spell.{integer_text, integer_fits}
 use Rattle.spell.proofs.Fits.{integer-room}
-use Rattle.spell.proofs.Pieces.{gap-blank, gap-past}
+use Rattle.spell.proofs.Pieces.{gap-blank}
 
 -- a byte put before what stands at the right end
 put-before : (lent stands : List ℕ) (at d : ℕ) → 0 < at → at ≤ length lent
@@ -48,16 +46,6 @@ pub record Leftward (lent : List ℕ) (n : ℕ) (field : List ℕ) (at rest : �
 
 has-digit : (n : ℕ) → n < 10 ^ 20 → 1 ≤ length (numeral n)
 has-digit n h = omega (arith, spell-length (count 1 20 n) n, count-least 1 20 n (omega arith) h)
-
-pub none-put : (lent : List ℕ) (n : ℕ) → n < 10 ^ 20 → Leftward lent n lent (length lent) n true
-none-put lent n h =
-    record {
-      stands = [];
-      whole = append-nil (numeral n);
-      bytes = sym (append-nil (take (length lent) lent) ∙ take-length lent);
-      span = omega arith;
-      below = h;
-    }
 
 module _ {lent field : List ℕ} {n at rest : ℕ} {more : Bool} (s : Leftward lent n field at rest more) where
   -- there is a byte for the next digit
@@ -112,32 +100,6 @@ module _ (z : ℤ) (at : ℕ) (lent : List ℕ) where
         ∙ omega
         (arith, length-replicate {A = ℕ} gap 32, length-append (minus z) (drop at lent), length-drop at lent)
 
-    next-mark : 0 < at → cond (lt_z z (pos 0)) 45 32 ≡ get_or (filled_before z at lent) (at - 1) 0
-    next-mark p =
-        by-test (lt_z z (pos 0)) (λ e. rw e (sym (gap-past (at - 1) (at - 1) (45 ∷ drop at lent) (omega arith) ∙ first)))
-        (λ e. rw e (sym (gap-blank (at - 0) (at - 1) (drop at lent) (omega arith))))
-      where
-        first : get_or (45 ∷ drop at lent) (at - 1 - (at - 1)) 0 ≡ 45
-        first =
-            let e : at - 1 - (at - 1) ≡ 0 = omega arith in
-            rw e
-
-    pub none_filled : {mark : ℕ} → mark ≡ cond (lt_z z (pos 0)) 45 32 → Filling lent mark at
-    none_filled e =
-        let gap = at - length (minus z) in
-        let l : length (replicate gap 32 ++ minus z) ≡ at =
-        length-append (replicate gap 32) (minus z) ∙ omega (arith, length-replicate {A = ℕ} gap 32)
-        in
-        record {
-          bytes =
-              sym (take-append-drop at lent)
-              ∙ ap (λ (l : List ℕ). take at lent ++ l)
-              (sym (drop_at (replicate gap 32 ++ minus z) (drop at lent) at l)
-              ∙ ap (λ (l : List ℕ). drop at l) (append_assoc (replicate gap 32) (minus z) (drop at lent)));
-          inside = omega arith;
-          next = λ p. e ∙ next-mark p;
-        }
-
     pub byte-filled : {field : List ℕ} {mark left : ℕ} → Filling field mark left → 0 < left
         → Filling (set field (left - 1) mark) 32 (left - 1)
     byte-filled {field} {mark} {left} f p =
@@ -155,16 +117,6 @@ module _ (z : ℤ) (at : ℕ) (lent : List ℕ) where
           next =
               λ q. sym (gap-blank (at - length (minus z)) (left - 1 - 1) (minus z ++ drop at lent) (omega (arith, minus-short z, f.inside)));
         }
-
-    pub filled-room : {field : List ℕ} {mark left : ℕ} → Filling field mark left → length field ≡ length lent
-    filled-room {field} {mark} {left} f =
-        let t = filled_before z at lent in
-        ap length f.bytes
-        ∙ length-append (take left lent) (drop left t)
-        ∙ omega (arith, length-take-le left lent (omega (arith, f.inside)), length-drop left t, filled-length, f.inside)
-
-  pub all-filled : {field : List ℕ} {mark left : ℕ} → Filling field mark left → left ≡ 0 → field ≡ filled_before z at lent
-  all-filled {field} {mark} {left} f e = f.bytes ∙ ap (λ (j : ℕ). take j lent ++ drop j (filled_before z at lent)) e
 
 -- ---- the whole field
 

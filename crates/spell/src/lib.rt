@@ -1,56 +1,26 @@
 #![tactic(auto)]
 // Number fields, written exactly: document 01, "Writing". An integer's bytes go straight into the field, from the right; a real's text is built in
 // a scratch array, then placed at the field's right end.
-ghost use Rattle.std.specs.Prelude.{cond, ◌∷◌, ◌++◌, ◌≡◌, ◌+◌, ◌≤◌, ◌<◌, ◌^◌, leb, nat_abs, pos, length, get_or, replicate};
-ghost use Rattle.std.specs.Int.Signed.{lt_z};
+ghost use Rattle.std.specs.Prelude.{cond, ◌∷◌, ◌≡◌, ◌+◌, ◌≤◌, ◌<◌, ◌^◌, leb, nat_abs, length};
 ghost use Rattle.numerals.specs.Numerals.{spell, numeral, minus};
 ghost use Rattle.numerals.specs.Pieces.{Puts};
 ghost use Rattle.spell.specs.Spell.{justified, leading, power_text, decimal, integer_text, integer_fits, real_text, real_fits};
 ghost use Rattle.spell.specs.RightSteps.{FromRight, filled_before};
 
 // Magnitudes of 10 ^ 9 and more are written by no real: here in billionths.
-const LIMIT: u64 = 1000000000000000000;
-
-const BLANK: u8 = 32;
-
-const PLUS: u8 = 43;
-
-const MINUS: u8 = 45;
-
-const POINT: u8 = 46;
-
-const ZERO: u8 = 48;
-
-const LETTER_D: u8 = 68;
-
-const LETTER_E: u8 = 69;
-
-// The byte at a place of a field: a blank in the gap before the text, then the text's own.
-fn byte_at(text: &[u8], gap: usize, i: usize) -> u8
-    requires { i < gap + length text.now }
-    ensures { result ≡ get_or (replicate gap 32 ++ text.now) i 0 }
-{
-    if i < gap {
-        return BLANK;
-    }
-    text[i - gap]
-}
+const LIMIT: u64 = 1_000_000_000_000_000_000;
 
 // The text at the field's right end, blanks before; a field that is too short stays as it is.
 fn place(text: &[u8], field: &mut [u8]) -> bool
     ensures fits { result ≡ leb (length text.now) (length field.old) }
     ensures placed { field.new ≡ cond (leb (length text.now) (length field.old)) (justified (length field.old) text.now) field.old }
 {
-    let width = field.len();
-    if width < text.len() {
+    if field.len() < text.len() {
         return false;
     }
-    let gap = width - text.len();
-    let mut i = 0;
-    while i < width {
-        field[i] = byte_at(text, gap, i);
-        i += 1;
-    }
+    let gap = field.len() - text.len();
+    field[..gap].fill(b' ');
+    field[gap..].copy_from_slice(text);
     true
 }
 
@@ -58,14 +28,8 @@ fn place(text: &[u8], field: &mut [u8]) -> bool
 fn has_places(value: i64, width: usize) -> bool
     ensures { result ≡ integer_fits width value }
 {
-    if width == 0 {
-        return false;
-    }
-    let size = number::size_of(value);
-    if value < 0 {
-        return numerals::is_below(size, width - 1);
-    }
-    numerals::is_below(size, width)
+    let minus = usize::from(value < 0);
+    0 < width && numerals::is_below(value.unsigned_abs(), width - minus)
 }
 
 // The digits from the right end of the field; returns where the first stands. One is put before it is asked for more, so that zero has one.
@@ -75,24 +39,14 @@ fn put_from_right(n: u64, field: &mut [u8]) -> usize
 {
     let mut at = field.len();
     let mut rest = n;
-    let mut more = true;
-    while more {
+    loop {
         at -= 1;
-        field[at] = ZERO + (rest % 10) as u8;
-        rest = rest / 10;
-        more = 0 < rest;
+        field[at] = b'0' + (rest % 10) as u8;
+        rest /= 10;
+        if rest == 0 {
+            return at;
+        }
     }
-    at
-}
-
-// The byte next to the digits.
-fn sign_of(value: i64) -> u8
-    ensures { result ≡ cond (lt_z value (pos 0)) 45 32 }
-{
-    if value < 0 {
-        return MINUS;
-    }
-    BLANK
 }
 
 // All that stands before the digits: a minus next to them if the number has one, blanks up to the field's first byte.
@@ -100,16 +54,14 @@ fn fill_before(value: i64, at: usize, field: &mut [u8])
     requires { (length (minus value) ≤ at) × (at ≤ length field.old) }
     ensures { field.new ≡ filled_before value at field.old }
 {
-    let mut mark = sign_of(value);
-    let mut left = at;
-    while 0 < left {
-        field[left - 1] = mark;
-        mark = BLANK;
-        left -= 1;
+    field[..at].fill(b' ');
+    if value < 0 {
+        field[at - 1] = b'-';
     }
 }
 
 // "Integers: right-justified .." False and the field as it was, where the number is too long for it.
+// Kept: what is written answers with a bool, since `integer_fits` and `real_fits` promise one to the callers.
 pub fn write_integer(value: i64, field: &mut [u8]) -> bool
     ensures fits { result ≡ integer_fits (length field.old) value }
     ensures written { field.new ≡ cond (integer_fits (length field.old) value) (integer_text (length field.old) value) field.old }
@@ -117,7 +69,7 @@ pub fn write_integer(value: i64, field: &mut [u8]) -> bool
     if !has_places(value, field.len()) {
         return false;
     }
-    let first = put_from_right(number::size_of(value), field);
+    let first = put_from_right(value.unsigned_abs(), field);
     fill_before(value, first, field);
     true
 }
@@ -128,18 +80,19 @@ fn leading_of(digits: usize, count: usize, size: u64) -> u64
     ensures { result ≡ leading digits count size }
 {
     if count <= digits {
-        return size * number::ten_to(digits - count);
+        size * number::ten_to(digits - count)
+    } else {
+        size / number::ten_to(count - digits)
     }
-    size / number::ten_to(count - digits)
 }
 
 // ""0.", 15 digits (6 in the spacings)"
+// Kept: a text and a place in it stand apart here, as in the functions of numerals that these call.
 fn put_fraction(text: &mut [u8], at: usize, digits: usize, count: usize, size: u64) -> usize
     requires { (at + (digits + 2) ≤ length text.old) × ((digits ≤ 15) × ((count ≤ 18) × (size < 10 ^ count))) }
     ensures { Puts text.old at (48 ∷ 46 ∷ spell digits (leading digits count size)) text.new result }
 {
-    let point = numerals::put_byte(text, at, ZERO);
-    let first = numerals::put_byte(text, point, POINT);
+    let first = numerals::put_word(text, at, b"0.");
     numerals::put_digits(text, first, digits, leading_of(digits, count, size))
 }
 
@@ -148,13 +101,13 @@ fn put_power(text: &mut [u8], at: usize, letter: u8, count: usize) -> usize
     requires { (at + 4 ≤ length text.old) × (count ≤ 18) }
     ensures { Puts text.old at (power_text letter count) text.new result }
 {
-    let sign = numerals::put_byte(text, at, letter);
-    if count < 9 {
-        let low = numerals::put_byte(text, sign, MINUS);
-        return numerals::put_digits(text, low, 2, (9 - count) as u64);
-    }
-    let high = numerals::put_byte(text, sign, PLUS);
-    numerals::put_digits(text, high, 2, (count - 9) as u64)
+    let (sign, power) = if count < 9 {
+        (b'-', 9 - count)
+    } else {
+        (b'+', count - 9)
+    };
+    let first = numerals::put_word(text, at, &[letter, sign]);
+    numerals::put_digits(text, first, 2, power as u64)
 }
 
 // "optional minus, "0.", 15 digits .."
@@ -162,7 +115,7 @@ fn put_decimal(text: &mut [u8], digits: usize, letter: u8, value: i64) -> usize
     requires { (22 ≤ length text.old) × ((digits ≤ 15) × (nat_abs value < 10 ^ 18)) }
     ensures { Puts text.old 0 (decimal digits letter value) text.new result }
 {
-    let size = number::size_of(value);
+    let size = value.unsigned_abs();
     let count = numerals::count_of(9, 18, size);
     let first = numerals::put_minus(text, 0, value);
     let power = put_fraction(text, first, digits, count, size);
@@ -175,16 +128,13 @@ fn write_decimal(value: i64, digits: usize, letter: u8, field: &mut [u8]) -> boo
     ensures fits { result ≡ real_fits digits (length field.old) value }
     ensures written { field.new ≡ cond (real_fits digits (length field.old) value) (real_text digits letter (length field.old) value) field.old }
 {
-    let size = number::size_of(value);
-    if LIMIT <= size {
-        return false;
-    }
-    if !numerals::is_short(digits, size) {
+    let size = value.unsigned_abs();
+    if LIMIT <= size || !numerals::is_short(digits, size) {
         return false;
     }
     let mut text = [0u8; 24];
     let end = put_decimal(&mut text, digits, letter, value);
-    place(&text[0..end], field)
+    place(&text[..end], field)
 }
 
 // "Reals: right-justified .." 15 digits and D. False and the field as it was, where the value cannot stand in it.
@@ -192,7 +142,7 @@ pub fn write_real(value: i64, field: &mut [u8]) -> bool
     ensures fits { result ≡ real_fits 15 (length field.old) value }
     ensures written { field.new ≡ cond (real_fits 15 (length field.old) value) (real_text 15 68 (length field.old) value) field.old }
 {
-    write_decimal(value, 15, LETTER_D, field)
+    write_decimal(value, 15, b'D', field)
 }
 
 // The same "in the spacings": 6 digits and E.
@@ -200,5 +150,5 @@ pub fn write_spacing(value: i64, field: &mut [u8]) -> bool
     ensures fits { result ≡ real_fits 6 (length field.old) value }
     ensures written { field.new ≡ cond (real_fits 6 (length field.old) value) (real_text 6 69 (length field.old) value) field.old }
 {
-    write_decimal(value, 6, LETTER_E, field)
+    write_decimal(value, 6, b'E', field)
 }

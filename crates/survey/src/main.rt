@@ -1,52 +1,46 @@
 #![tactic(auto)]
 // Lists a sheet as the lister does, with the cells of a whole 1201 × 1201 sheet lent: 5.8 MB of the stack's 8.
-ghost use Rattle.listing.specs.Turns.{Fetched, Listed, Lists};
+ghost use Rattle.std.specs.Prelude.{◌≡◌, ◌≤◌, length};
+ghost use Rattle.listing.specs.Turns.{Listed, Lists};
 
-use listing::{MORE, Turn};
-use session::Session;
+use listing::{Source, Turn};
 
 // The open files that a program is begun with.
 const STDIN_FILENO: i32 = 0;
 
 const STDOUT_FILENO: i32 = 1;
 
-// The next bytes of the input, however a pipe cuts it up: as many as there is room for, and fewer only at its end.
-fn fetch(s: Session, bytes: &mut [u8], grid: &mut [i32]) -> Turn
-    ensures { Fetched s grid.old grid.new result }
-{
-    let got = io::read_full(STDIN_FILENO, bytes);
-    listing::take_bytes(s, &bytes[..got], grid)
+// The program's input: no contract can say more of it than how many bytes it fills.
+// Kept: in both programs, since no library reads or writes.
+#[derive(Drop)]
+struct StandardInput;
+
+impl Source for StandardInput {
+    ghost brings = { λ _ lent got _ filled. (length filled ≡ length lent) × (got ≤ length filled) };
+
+    fn fetch(&mut self, bytes: &mut [u8]) -> usize {
+        io::read_full(STDIN_FILENO, bytes)
+    }
 }
 
-// A proved loop has to end, and nothing says that the input does: but no sheet has more than 26,626 blocks, and one more is refused.
-fn all_blocks(bytes: &mut [u8], grid: &mut [i32]) -> Turn
+// All of the input, up to its end or to a refusal.
+fn all_blocks(grid: &mut [i32]) -> Turn
     ensures { Listed grid.old grid.new result }
 {
-    let mut t = listing::begin();
-    while t.stage == MORE {
-        let s = t.session;
-        t = fetch(s, bytes, grid);
-    }
-    t
+    listing::list(&mut StandardInput, grid)
 }
 
-// The input, 64 blocks at a time, then the output.
-fn list(grid: &mut [i32])
+// An array, and no slice: the prover takes so long an array as a slice only behind a reference.
+fn list(grid: &mut [i32; 1442401])
     ensures { Lists grid.old grid.new }
 {
-    let mut bytes = [0u8; 65536];
-    let t = all_blocks(&mut bytes, grid);
+    let t = all_blocks(grid);
     let mut out = [0u8; 512];
     let used = listing::put_last(t, &mut out);
     io::write_all(STDOUT_FILENO, &out[..used]);
 }
 
-// Lent as an array first: the prover takes so long an array as a slice only behind a reference.
-fn list_sheet(grid: &mut [i32; 1442401]) {
-    list(grid);
-}
-
 fn main() {
     let mut grid = [0i32; 1442401];
-    list_sheet(&mut grid);
+    list(&mut grid);
 }

@@ -1,152 +1,98 @@
 #![tactic(auto)]
-// Block 0 written anew: document 01, "Writing". Its stretches stand in arrays, one entry for each, in the order of record A's table.
-ghost use Rattle.std.specs.Prelude.{◌≡◌, ◌<◌, length};
+// Block 0 written anew: document 01, "Writing". Its stretches stand in the order of record A's table.
+ghost use Rattle.std.specs.Prelude.{◌≡◌, ◌+◌, ◌≤◌, length};
 ghost use Rattle.title.specs.Title.{zero_after, title_after};
-ghost use Rattle.title.specs.ZeroSteps.{stretch_at, text_by, piece_by, pieces_to, capped, numbers_by};
+ghost use Rattle.title.specs.ZeroSteps.{start_of, width_of, stretches_by, text_by, stretch_after, capped};
 
-use frame::{Corner, Header};
+use frame::Header;
 
-// The bytes before each stretch.
-const START: [usize; 27] = [
-    0, 144, 150, 156, 162, 168, 528, 534, 540, 546, 570, 594, 618, 642, 666, 690, 714, 738, 762,
-    786, 810, 816, 828, 840, 852, 858, 864,
-];
-
-const WIDTH: [usize; 27] = [
-    144, 6, 6, 6, 6, 360, 6, 6, 6, 24, 24, 24, 24, 24, 24, 24, 24, 24, 24, 24, 6, 12, 12, 12, 6, 6,
-    160,
-];
-
-// How a stretch is written: 0 kept from the template, 1 an integer, 2 a real, 3 a spacing.
-const HOW: [u8; 27] = [
-    0, 1, 1, 1, 1, 0, 1, 1, 1, 2, 2, 2, 2, 2, 2, 2, 2, 2, 2, 2, 1, 3, 3, 3, 1, 1, 0,
-];
-
-fn start(i: usize) -> usize
-    requires { i < 27 }
-    ensures { result ≡ (stretch_at i).start }
-{
-    START[i]
+// What is written in a stretch: the template's own bytes, or a number.
+#[derive(Clone, Copy)]
+enum Content {
+    Kept,
+    Integer(u64),
+    Real(i64),
+    Spacing(u64),
 }
 
-fn width(i: usize) -> usize
-    requires { i < 27 }
-    ensures { result ≡ (stretch_at i).width }
-{
-    WIDTH[i]
-}
+// The bytes before a stretch, how many it has itself, and what is written there.
+#[derive(Clone, Copy)]
+struct Stretch(usize, usize, Content);
 
-fn how(i: usize) -> u8
-    requires { i < 27 }
-    ensures { result ≡ (stretch_at i).how }
+// "n set to the columns, extremes worked out, accuracy 0"; what the paper allows one value only is that value.
+fn stretches(h: Header, least: i64, greatest: i64, columns: u64) -> [Stretch; 27]
+    ensures { result ≡ stretches_by h least greatest columns }
 {
-    HOW[i]
-}
-
-fn copy(kept: &[u8], field: &mut [u8])
-    requires { length kept.now ≡ length field.old }
-    ensures { field.new ≡ kept.now }
-{
-    let mut i = 0;
-    while i < kept.len() {
-        field[i] = kept[i];
-        i += 1;
-    }
-}
-
-// A number too long for its field leaves it as it was.
-#[tactic(auto, unfolding(crate::specs::ZeroSteps::text_by))]
-fn write_field(how: u8, value: i64, kept: &[u8], field: &mut [u8])
-    requires { length kept.now ≡ length field.old }
-    ensures { field.new ≡ text_by how value kept.now field.old }
-{
-    if how == 0 {
-        copy(kept, field);
-        return;
-    }
-    if how == 1 {
-        spell::write_integer(value, field);
-        return;
-    }
-    if how == 2 {
-        spell::write_real(value, field);
-        return;
-    }
-    spell::write_spacing(value, field);
-}
-
-// A field is lent its stretch of the block and no more.
-fn write_piece(template: &[u8], i: usize, value: i64, block: &mut [u8])
-    requires { (length template.now ≡ 1024) × ((length block.old ≡ 1024) × (i < 27)) }
-    ensures { block.new ≡ piece_by template.now (stretch_at i) value block.old }
-{
-    let first = start(i);
-    let end = first + width(i);
-    write_field(how(i), value, &template[first..end], &mut block[first..end]);
+    [
+        Stretch(0, 144, Content::Kept),
+        Stretch(144, 6, Content::Integer(h.level)),
+        Stretch(150, 6, Content::Integer(1)),
+        Stretch(156, 6, Content::Integer(h.system)),
+        Stretch(162, 6, Content::Integer(h.zone)),
+        Stretch(168, 360, Content::Kept),
+        Stretch(528, 6, Content::Integer(h.ground)),
+        Stretch(534, 6, Content::Integer(h.vertical)),
+        Stretch(540, 6, Content::Integer(4)),
+        Stretch(546, 24, Content::Real(h.sw.x)),
+        Stretch(570, 24, Content::Real(h.sw.y)),
+        Stretch(594, 24, Content::Real(h.nw.x)),
+        Stretch(618, 24, Content::Real(h.nw.y)),
+        Stretch(642, 24, Content::Real(h.ne.x)),
+        Stretch(666, 24, Content::Real(h.ne.y)),
+        Stretch(690, 24, Content::Real(h.se.x)),
+        Stretch(714, 24, Content::Real(h.se.y)),
+        Stretch(738, 24, Content::Real(least)),
+        Stretch(762, 24, Content::Real(greatest)),
+        Stretch(786, 24, Content::Real(0)),
+        Stretch(810, 6, Content::Integer(0)),
+        Stretch(816, 12, Content::Spacing(h.xstep)),
+        Stretch(828, 12, Content::Spacing(h.ystep)),
+        Stretch(840, 12, Content::Spacing(h.zstep)),
+        Stretch(852, 6, Content::Integer(1)),
+        Stretch(858, 6, Content::Integer(columns)),
+        Stretch(864, 160, Content::Kept),
+    ]
 }
 
 // What no i64 holds is too long for every field: the largest stands for it, and leaves the field too.
 fn signed(n: u64) -> i64
     ensures { result ≡ capped n }
 {
-    if n < 9223372036854775807 {
-        return n as i64;
-    }
-    9223372036854775807
+    i64::try_from(n).unwrap_or(i64::MAX)
 }
 
-// "n set to the columns, extremes worked out, accuracy 0"; what the paper allows one value only is that value. 0 where the template is kept.
-fn numbers(h: Header, least: i64, greatest: i64, columns: u64) -> [i64; 27]
-    ensures { result ≡ numbers_by h least greatest columns }
+// A number too long for its field leaves it as it was.
+#[tactic(auto, unfolding(crate::specs::ZeroSteps::text_by))]
+fn write_field(content: Content, kept: &[u8], field: &mut [u8])
+    requires { length kept.now ≡ length field.old }
+    ensures { field.new ≡ text_by content kept.now field.old }
 {
-    let sw = h.sw;
-    let nw = h.nw;
-    let ne = h.ne;
-    let se = h.se;
-    [
-        0,
-        signed(h.level),
-        1,
-        signed(h.system),
-        signed(h.zone),
-        0,
-        signed(h.ground),
-        signed(h.vertical),
-        4,
-        sw.x,
-        sw.y,
-        nw.x,
-        nw.y,
-        ne.x,
-        ne.y,
-        se.x,
-        se.y,
-        least,
-        greatest,
-        0,
-        0,
-        signed(h.xstep),
-        signed(h.ystep),
-        signed(h.zstep),
-        1,
-        signed(columns),
-        0,
-    ]
+    match content {
+        Content::Kept => field.copy_from_slice(kept),
+        Content::Integer(n) => {
+            spell::write_integer(signed(n), field);
+        }
+        Content::Real(z) => {
+            spell::write_real(z, field);
+        }
+        Content::Spacing(n) => {
+            spell::write_spacing(signed(n), field);
+        }
+    }
 }
 
-// Piece by piece, in the table's order.
-fn write_pieces(template: &[u8], values: [i64; 27], block: &mut [u8])
-    requires { (length template.now ≡ 1024) × (length block.old ≡ 1024) }
-    ensures { block.new ≡ pieces_to template.now values 27 block.old }
+// A field is lent its stretch of the block and no more.
+fn write_stretch(template: &[u8], stretch: Stretch, block: &mut [u8])
+    requires { (length template.now ≡ 1024) × ((length block.old ≡ 1024) × (start_of stretch + width_of stretch ≤ 1024)) }
+    ensures { block.new ≡ stretch_after template.now stretch block.old }
 {
-    let mut i = 0;
-    while i < 27 {
-        write_piece(template, i, values[i], block);
-        i += 1;
-    }
+    let Stretch(start, width, content) = stretch;
+    let end = start + width;
+    write_field(content, &template[start..end], &mut block[start..end]);
 }
 
 // "the template with numeric fields rewritten". Where one of the two is no block, the lent one stays as it was.
+#[tactic(auto, unfolding(crate::specs::Title::zero_after))]
 pub fn write_zero(
     template: &[u8],
     h: Header,
@@ -157,14 +103,11 @@ pub fn write_zero(
 )
     ensures { block.new ≡ zero_after template.now h least greatest columns block.old }
 {
-    if template.len() != 1024 {
-        return;
+    if template.len() == 1024 && block.len() == 1024 {
+        for stretch in stretches(h, least, greatest, columns) {
+            write_stretch(template, stretch, block);
+        }
     }
-    if block.len() != 1024 {
-        return;
-    }
-    let values = numbers(h, least, greatest, columns);
-    write_pieces(template, values, block);
 }
 
 // Block 0 of a sheet: the extremes are those of its cells, n its columns. A grid that has not the cells leaves the block as it was.

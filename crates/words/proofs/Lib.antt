@@ -1,3 +1,3 @@
-pub mod Cells
 pub mod Examples
 pub mod OneAnswer
+pub mod Cells

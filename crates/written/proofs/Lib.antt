@@ -7,3 +7,5 @@ pub mod PostsSent
 pub mod HeadSent
 pub mod BlocksSent
 pub mod PaintedFits
+pub mod OneTold
+pub mod OneAnswer

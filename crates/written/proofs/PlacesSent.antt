@@ -1,4 +1,5 @@
 -- Places sent stand on the lattice, and places and extremes fit their fields: between the corners, in thousands of billionths.
+use Rattle.std.specs.Prelude.{Some}
 use mathlib.Core.Bool.{true, false}
 use mathlib.Core.Path.{◌≡◌, refl, ◌∙◌, ap}
 use Prim.Native.Nat.{ℕ, ◌*◌, ◌%◌, ◌^◌, ◌≤◌, ◌<◌, suc, ◌/◌, zero}
@@ -13,7 +14,6 @@ use Rattle.laws.specs.Sign.{lesser, greater, same_z}
 use Rattle.laws.proofs.Integers.{parts, le_parts, size-multiple}
 use Rattle.laws.proofs.Tests.{by-test}
 use Rattle.lattice.specs.Lattice.{is_real, lattice_of, place_of}
-use Rattle.lattice.specs.declared.Place.TheVariants.{On}
 use Rattle.lattice.proofs.Cases.{real-small, small-real}
 use Rattle.lattice.proofs.LatticeLaws.{lattice-is, on-place, first-real}
 use Rattle.frame.specs.Frame.{columns_of, rows_of, west, east, south, north, cells_of}
@@ -48,7 +48,7 @@ module _ (least greatest : ℤ) (s : ℕ) (rl : is_real least ≡ true) (rg : is
       let high = le_parts place greatest b.1 in
       omega (arith, low, high, parts least, parts greatest, parts place, real-small least rl, real-small greatest rg)
 
-  place-stands : place_of (lattice_of least greatest s) s place ≡ On i
+  place-stands : place_of (lattice_of least greatest s) s place ≡ Some i
   place-stands =
       on-place (lattice_of least greatest s) s place (small-real place place-small) (first-real least greatest s) p i (here, refl)
 
@@ -118,7 +118,7 @@ module _ (h : Header) (obeys : header_obeys h ≡ true) where
   -- ---- places
 
   -- the x of a column
-  pub x-stands : (c : ℕ) → c < columns_of h → place_of (lattice_of (west h) (east h) h.xstep) h.xstep (x_sent h c) ≡ On c
+  pub x-stands : (c : ℕ) → c < columns_of h → place_of (lattice_of (west h) (east h) h.xstep) h.xstep (x_sent h c) ≡ Some c
   x-stands c here =
       place-stands (west h) (east h) h.xstep west-real east-real (spacing-some h.xstep facts.xstep) c here
 
@@ -127,7 +127,7 @@ module _ (h : Header) (obeys : header_obeys h ≡ true) where
       place-fits (west h) (east h) h.xstep west-real east-real (spacing-some h.xstep facts.xstep) c here
       (spacing-whole h.xstep facts.xstep)
 
-  pub y-stands : (r : ℕ) → r < rows_of h → place_of (lattice_of (south h) (north h) h.ystep) h.ystep (y_of_row h r) ≡ On r
+  pub y-stands : (r : ℕ) → r < rows_of h → place_of (lattice_of (south h) (north h) h.ystep) h.ystep (y_of_row h r) ≡ Some r
   y-stands r here =
       place-stands (south h) (north h) h.ystep south-real north-real (spacing-some h.ystep facts.ystep) r here
 
@@ -146,7 +146,7 @@ module _ (h : Header) (obeys : header_obeys h ≡ true) where
         omega (arith, long, some-cells column, cells-room column some)
 
     pub y-sent-stands : place_of (lattice_of (south h) (north h) h.ystep) h.ystep (y_sent h grid c)
-        ≡ On (first_row (column_cells h grid c))
+        ≡ Some (first_row (column_cells h grid c))
     y-sent-stands = y-stands (first_row (column_cells h grid c)) first-row-stands
 
     pub y-sent-fits : real_fits 15 24 (y_sent h grid c) ≡ true

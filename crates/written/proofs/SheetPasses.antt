@@ -12,8 +12,8 @@ use Rattle.frame.specs.declared.Header.{Header}
 use Rattle.frame.specs.Frame.{cells_of, z_of}
 use Rattle.heading.specs.Heading.{header_of}
 use Rattle.sheet.specs.RecordA.{record_a, record_of, fault_of, checked_kind}
-use Rattle.sheet.specs.declared.Checked.TheVariants.{Sheet, Refused as NoSheet}
-use Rattle.sheet.specs.declared.Checked.{Checked}
+use Rattle.sheet.specs.RecordA.Checked.{Sheet, Refused as NoSheet}
+use Rattle.sheet.specs.RecordA.{Checked}
 use Rattle.sheet.proofs.RulesA.{sheet-header}
 use Rattle.written.specs.Cells.{can_send, sendable}
 use Rattle.written.specs.Blocks.{sheet_cells}

@@ -1,14 +1,15 @@
 -- Document 01, "Writing": what the writer refuses, in its order, and what it sends.
-use Rattle.std.specs.Prelude.{ℕ, ◌*◌, cond, List, map, ℤ, ltb, eqb, leb, length}
+use Rattle.std.specs.Prelude.{ℕ, ◌*◌, cond, List, map, ℤ, ltb, eqb, leb, length, Result, Ok, Err}
 use Rattle.laws.specs.Lists.{below, joined}
 use Rattle.frame.specs.declared.Header.{Header}
 use Rattle.frame.specs.Frame.{cells_of, z_of}
 use Rattle.heading.specs.Heading.{header_of}
-use Rattle.sheet.specs.declared.Checked.{Checked}
-use Rattle.sheet.specs.declared.Checked.TheVariants.{Sheet, Refused as NoSheet}
+use Rattle.sheet.specs.RecordA.{Checked}
+use Rattle.sheet.specs.RecordA.Checked.{Sheet, Refused as NoSheet}
 use Rattle.sheet.specs.RecordA.{record_a}
-use Rattle.written.specs.declared.Sent.{Sent}
-use Rattle.written.specs.declared.Sent.TheVariants.{Written, Refused}
+use Rattle.written.specs.declared.Refused.{Refused as Against}
+use Rattle.kinds.specs.Kinds.{number_of}
+use Rattle.kinds.specs.declared.Kind.{Kind}
 use Rattle.written.specs.Cells.{sendable, block_count}
 use Rattle.written.specs.Blocks.{sheet_cells, block_sent}
 
@@ -21,17 +22,29 @@ abbrev pub objection : ℕ → ℕ → Objection
 objection kind number = record { kind = kind; number = number }
 
 -- the cases of the writer's answer, with the paper's kind and number
+pub data Sent : Type 0 where
+  Written : Sent
+  Refused : ℕ → ℕ → Sent
+
 abbrev pub sent_by : Objection → Sent
-sent_by f = cond (eqb f.kind 0) Written (Refused f.kind f.number)
+sent_by f = cond (eqb f.kind 0) Sent.Written (Sent.Refused f.kind f.number)
+
+-- and as the code answers it
+abbrev pub against : Kind → ℕ → Against
+against kind number = record { kind = kind; number = number }
+
+abbrev pub sent_told : {A : Type 0} → Result A Against → Sent
+sent_told (Ok a) = Sent.Written
+sent_told (Err r) = Sent.Refused (number_of r.kind) r.number
 
 -- and the numbers of each case: 0 and 0 where the block is written
 abbrev pub sent_kind : Sent → ℕ
-sent_kind Written = 0
-sent_kind (Refused kind number) = kind
+sent_kind Sent.Written = 0
+sent_kind (Sent.Refused kind number) = kind
 
 abbrev pub sent_number : Sent → ℕ
-sent_number Written = 0
-sent_number (Refused kind number) = number
+sent_number Sent.Written = 0
+sent_number (Sent.Refused kind number) = number
 
 -- "12 (0), 13 first cell .. (cell)"
 abbrev pub grid_objection : Header → List ℤ → Objection

@@ -1,10 +1,22 @@
 #![tactic(auto)]
-// No code: what the blocks of a sheet say when it is written, for the writer and for reading back. The definitions stand in specs/; here is
-// the type of the writer's answer.
+// What the blocks of a sheet say when it is written, for the writer and for reading back. The definitions stand in specs/; here is the type of
+// the writer's answer.
+ghost use Rattle.std.specs.Prelude.{◌≡◌};
+ghost use Rattle.written.specs.Sending.{against};
 
-// What a writer answers: written, or document 01's kind with its one number.
-#[derive(Drop)]
-pub enum Sent {
-    Written,
-    Refused(u32, u64),
+use kinds::Kind;
+
+// What a writer refuses: "kinds .., each with one number".
+#[derive(Clone, Copy)]
+pub struct Refused {
+    pub kind: Kind,
+    pub number: u64,
+}
+
+impl Refused {
+    pub fn of(kind: Kind, number: u64) -> Refused
+        ensures { result ≡ against kind number }
+    {
+        Refused { kind, number }
+    }
 }

@@ -1,10 +1,7 @@
 -- The block where the next column starts.
-use Rattle.std.proofs.Common.{◌≡◌, ◌-◌, ◌≤◌}
+use Rattle.std.proofs.Common.{◌≡◌}
 use Rattle.written.specs.Cells.{start_at}
 use Rattle.census.proofs.count_blocks.Given as goal
 
 abbrev pub invariant-loop-c : goal.invariant-loop-c
-invariant-loop-c l = (l.c ≤ l.columns) × (l.next ≡ start_at l.rows l.grid l.c)
-
-abbrev pub decreases-loop-c : goal.decreases-loop-c
-decreases-loop-c l = l.columns - l.c
+invariant-loop-c l = l.next ≡ start_at l.rows l.grid l.c

@@ -1,10 +1,7 @@
 -- Each column passed ends before the block.
-use Rattle.std.proofs.Common.{◌≡◌, ◌-◌, ◌≤◌}
+use Rattle.std.proofs.Common.{◌≡◌, ◌≤◌}
 use Rattle.written.specs.Cells.{start_at}
 use Rattle.census.proofs.search.Given as goal
 
 abbrev pub invariant-loop-c : goal.invariant-loop-c
-invariant-loop-c l = (l.c ≤ l.columns) × ((l.start ≡ start_at l.rows l.grid l.c) × (l.start ≤ l.number))
-
-abbrev pub decreases-loop-c : goal.decreases-loop-c
-decreases-loop-c l = l.columns - l.c
+invariant-loop-c l = (l.start ≡ start_at l.rows l.grid l.c) × (l.start ≤ l.number)

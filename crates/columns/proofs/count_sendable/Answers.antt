@@ -1,20 +1,15 @@
--- Sendable has one turn.
-use Rattle.std.proofs.Common.{◌≡◌, false, true, get_or, pos, arith, rules}
+-- As many as stand before the first that cannot.
+use borrow.Author.Tests.{tests}
+use Rattle.std.proofs.Common.{◌≡◌, ◌∙◌, true, false, rules}
+use Rattle.std.proofs.lemmas.Iterator.{IsFirst-from_position, YieldsList-from_slice}
 use Rattle.written.specs.Cells.{can_send}
-use Rattle.columns.proofs.Sendable.{sending-stop, sending-turn, sending-end}
+use Rattle.columns.proofs.Sendable.{sendable-first}
 use Rattle.columns.proofs.count_sendable.Goals as goal
 
-pub returns-then-not-can_send : goal.returns-then-not-can_send
-returns-then-not-can_send c =
-    let a = c.args in
-    let t : can_send a.z (get_or a.cells.now c.loop-i.i (pos 0)) ≡ false = search rules in
-    sending-stop a.z a.cells.now c.loop-i.i c.loop-i-test.true t c.loop-i.invariant.1
-
-pub loop-i-preserved : goal.loop-i-preserved
-loop-i-preserved c =
-    let a = c.args in
-    let t : can_send a.z (get_or a.cells.now c.loop-i.i (pos 0)) ≡ true = search rules in
-    (omega arith, sending-turn a.z a.cells.now c.loop-i.i c.loop-i-test.true t c.loop-i.invariant.1)
-
 pub returns : goal.returns
-returns c = sending-end c.args.z c.args.cells.now c.loop-i.i c.loop-i-test.false c.loop-i.invariant.1
+returns c =
+    let cells = c.args.cells.now in
+    c.unwrap_or.ensures
+    ∙ sendable-first c.args.z cells c.position.result
+    (IsFirst-from_position _ _ c.position.result (λ cell. can_send c.args.z cell ≡ false) (λ cell. can_send c.args.z cell ≡ true) c.position.ensures.ran
+    (YieldsList-from_slice cells cc) (λ x q k. search (rules, tests)) (λ x q k. search (rules, tests)))

@@ -23,8 +23,8 @@ returns-then-cell-lt0 c =
     to_z-of_z (negated_fits c.quotient-n.result small) ∙ negated c.quotient-n.result small ∙ ap (signed true) q
     ∙ post-below c.args.z c.args.cell v t
 
-pub returns : goal.returns
-returns c =
+pub returns-else-cell-lt0 : goal.returns-else-cell-lt0
+returns-else-cell-lt0 c =
     let v : same_z c.args.cell void ≡ false = search rules in
     let t : lt_z c.args.cell (pos 0) ≡ false = search rules in
     let q : c.quotient-n.result ≡ nat_abs c.args.cell / c.args.z = search rules in

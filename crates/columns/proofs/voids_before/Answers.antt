@@ -1,19 +1,16 @@
--- Columns has one turn.
-use Rattle.std.proofs.Common.{◌≡◌, false, true, get_or, pos, arith, rules}
+-- As many as stand before the first that is filled.
+use borrow.Author.Tests.{tests}
+use Rattle.std.proofs.Common.{◌≡◌, ◌∙◌, true, false, rules}
+use Rattle.std.proofs.lemmas.Iterator.{IsFirst-from_position, YieldsList-from_slice}
 use Rattle.laws.specs.Sign.{same_z}
 use Rattle.ground.specs.Posts.{void}
-use Rattle.columns.proofs.Columns.{front-stop, front-turn, front-end}
+use Rattle.columns.proofs.Columns.{voids-first}
 use Rattle.columns.proofs.voids_before.Goals as goal
 
-pub returns-then-not-is_void : goal.returns-then-not-is_void
-returns-then-not-is_void c =
-    let t : same_z (get_or c.args.column.now c.loop-i.i (pos 0)) void ≡ false = search rules in
-    front-stop c.args.column.now c.loop-i.i c.loop-i-test.true t c.loop-i.invariant.1
-
-pub loop-i-preserved : goal.loop-i-preserved
-loop-i-preserved c =
-    let t : same_z (get_or c.args.column.now c.loop-i.i (pos 0)) void ≡ true = search rules in
-    (omega arith, front-turn c.args.column.now c.loop-i.i c.loop-i-test.true t c.loop-i.invariant.1)
-
 pub returns : goal.returns
-returns c = front-end c.args.column.now c.loop-i.i c.loop-i-test.false c.loop-i.invariant.1
+returns c =
+    let cells = c.args.column.now in
+    c.unwrap_or.ensures
+    ∙ voids-first cells c.position.result
+    (IsFirst-from_position _ _ c.position.result (λ cell. same_z cell void ≡ false) (λ cell. same_z cell void ≡ true) c.position.ensures.ran
+    (YieldsList-from_slice cells cc) (λ x q k. search (rules, tests)) (λ x q k. search (rules, tests)))

@@ -4,4 +4,4 @@ use Rattle.label.proofs.Names.{name-length}
 use Rattle.desk.proofs.dem_name_length.Goals as goal
 
 pub returns : goal.returns
-returns c = ap length c.name-name.ensures ∙ name-length c.args.block.now
+returns c = ap length c.name.ensures ∙ name-length c.args.block.now

@@ -15,5 +15,6 @@ thousands n h e =
 
 pub returns-then-n-eq0 : goal.returns-then-n-eq0
 returns-then-n-eq0 c =
-    let n : c.size_of-n.result ≡ nat_abs c.args.z = search rules in
-    rw (← n) (thousands c.size_of-n.result c.if-n-ge1000000000000000000.false c.if-n-eq0.true)
+    let n : c.unsigned_abs-n.result ≡ nat_abs c.args.z = search rules in
+    let zeros : c.unsigned_abs-n.result % 1000 ≡ 0 = c.if-n-eq0.true in
+    rw (← n, zeros) (thousands c.unsigned_abs-n.result c.if-n-lt1000000000000000000.true zeros)

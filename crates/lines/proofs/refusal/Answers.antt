@@ -9,4 +9,4 @@ unfolding refused_text
 returns c =
     wider (omega arith)
     (then c.put_number-a.ensures
-    (then c.put_next-b.ensures (then c.put_next-c.ensures (within 1 c.put_byte.ensures (omega arith) (omega arith)))))
+    (then c.put_number-b.ensures (then c.put_number-c.ensures (within 1 c.put_byte.ensures (omega arith) (omega arith)))))

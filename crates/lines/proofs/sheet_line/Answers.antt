@@ -7,6 +7,6 @@ pub returns : goal.returns
 returns c =
     wider (omega arith)
     (then c.put_number-a.ensures
-    (then c.put_next-b.ensures
+    (then c.put_number-b.ensures
     (then c.put_spacing-c.ensures
     (then c.put_spacing-d.ensures (then c.put_units-e.ensures (within 1 c.put_byte.ensures (omega arith) (omega arith)))))))

@@ -2,8 +2,5 @@
 use Rattle.numerals.proofs.Spelling.{Spelling}
 use Rattle.numerals.proofs.put_spelled.Given as goal
 
-abbrev pub invariant-loop-left : goal.invariant-loop-left
-invariant-loop-left l = Spelling l.fn.text l.at l.k l.n l.text l.end l.left l.rest
-
-abbrev pub decreases-loop-left : goal.decreases-loop-left
-decreases-loop-left l = l.left
+abbrev pub invariant-loop-i : goal.invariant-loop-i
+invariant-loop-i l = Spelling l.fn.text l.at l.k l.n l.text l.i l.rest

@@ -7,9 +7,9 @@ use Rattle.paint.proofs.write_behind.Goals as goal
 pub returns : goal.returns
 returns c =
     let a = c.args in
-    let m = c.fewer_of.result in
+    let m = c.min.result in
     let r = 146 + 170 * (a.k - 1) in
     let rest = drop r a.cells.now in
-    let many : r + m - r ≡ min (length rest) 170 = omega (arith, c.fewer_of.ensures, length-drop r a.cells.now) in
+    let many : r + m - r ≡ min (length rest) 170 = omega (arith, c.min.ensures, length-drop r a.cells.now) in
     c.write_further.ensures
     ∙ ap (λ (l : List ℤ). further_after a.z l a.block.now) (take-fewer 170 (r + m - r) rest many)

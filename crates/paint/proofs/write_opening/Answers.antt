@@ -8,8 +8,8 @@ pub returns : goal.returns
 returns c =
     let cells = c.args.cells.now in
     let s = c.args.stake in
-    let n = c.fewer_of-here.result in
-    let many : n - 0 ≡ min (length cells) 146 = omega (arith, c.fewer_of-here.ensures) in
+    let n = c.min-here.result in
+    let many : n - 0 ≡ min (length cells) 146 = omega (arith, c.min-here.ensures) in
     let r = c.extremes_of-extremes.result in
     let px : to_z w64 (of_z w64 s.x) ≡ s.x = search rules in
     let py : to_z w64 (of_z w64 s.y) ≡ s.y = search rules in

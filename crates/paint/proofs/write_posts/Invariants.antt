@@ -1,13 +1,9 @@
--- After i turns the posts of the first i cells stand.
-use Rattle.std.proofs.Common.{◌≡◌, ◌+◌, ◌*◌, ◌-◌, ◌≤◌, length, take}
+-- At each turn the posts of the cells so far stand.
+use Rattle.std.proofs.Common.{◌≡◌, ◌+◌, ◌*◌, take}
 use Rattle.paint.specs.Fields.{post_fields}
 use Rattle.paint.specs.FieldSteps.{Paints}
 use Rattle.paint.proofs.write_posts.Given as goal
 
-abbrev pub invariant-loop-i : goal.invariant-loop-i
-invariant-loop-i l =
-    (l.i ≤ length l.cells)
-    × ((l.end ≡ l.at + 6 * l.i) × Paints l.fn.block l.at (post_fields l.z (take l.i l.cells)) l.block l.end)
-
-abbrev pub decreases-loop-i : goal.decreases-loop-i
-decreases-loop-i l = length l.cells - l.i
+abbrev pub invariant-loop-cell : goal.invariant-loop-cell
+invariant-loop-cell l =
+    (l.end ≡ l.at + 6 * l.cell-index) × Paints l.fn.block l.at (post_fields l.z (take l.cell-index l.cells)) l.block l.end

@@ -16,8 +16,8 @@ returns-then-is_countable c =
     let asked = told (countable a.s a.p a.n a.u) a.sum c.is_countable.ensures c.ranges.sum.sfits in
     rw (sym asked ∙ c.if-is_countable.true) (told (filled_with a.s a.column a.p a.n a.u) a.sum c.fill_counted.ensures c.ranges.sum.sfits)
 
-pub returns : goal.returns
-returns c =
+pub returns-else-is_countable : goal.returns-else-is_countable
+returns-else-is_countable c =
     let a = c.args in
     let asked = told (countable a.s a.p a.n a.u) a.sum c.is_countable.ensures c.ranges.sum.sfits in
     rw (sym asked ∙ c.if-is_countable.false)

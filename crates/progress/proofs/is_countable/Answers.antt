@@ -1,12 +1,9 @@
--- The tests joined, as the definition joins them.
-use Rattle.std.proofs.Common.{rules, w64, FitsSigned}
-use Rattle.laws.proofs.Told.{told}
-use Rattle.progress.specs.Progress.{near}
+-- Nine tests.
+use Rattle.std.proofs.Common.{rules}
 use Rattle.progress.proofs.is_countable.Goals as goal
 
-pub returns : goal.returns
-returns c =
-    let fits : FitsSigned w64 c.args.s.sum = search rules in
-    let so_far = told near c.args.s.sum c.is_near.ensures fits.sfits in
-    let more = told near c.args.sum c.is_near-2.ensures c.ranges.sum.sfits in
-    cc
+pub returns-then-is_near : goal.returns-then-is_near
+returns-then-is_near c = search rules depth 16
+
+pub returns-else-is_near : goal.returns-else-is_near
+returns-else-is_near c = search rules depth 16

@@ -16,9 +16,10 @@ below {h} {grid} {number} s e p = subst (λ (n : ℕ). number < n) (e ∙ counts
 pub returns-then-count-number : goal.returns-then-count-number
 returns-then-count-number c =
     let a = c.args in
-    past_end a.template.now a.h a.grid.now a.number a.block.now c.count_of-count.result
+    rw c.of.ensures
+    (past_end a.template.now a.h a.grid.now a.number a.block.now c.count_of-count.result
     (c.count_of-count.ensures ∙ counts c.requires.sheet)
-    c.if-count-number.true
+    c.if-count-number.true)
 
 pub returns-then-number-eq0 : goal.returns-then-number-eq0
 returns-then-number-eq0 c =
@@ -27,8 +28,8 @@ returns-then-number-eq0 c =
     written-zero a.template.now a.h a.grid.now a.number a.block.now c.write_title.new.block b c.if-number-eq0.true
     (c.write_title.ensures ∙ title-block c.requires)
 
-pub returns : goal.returns
-returns c =
+pub returns-else-number-eq0 : goal.returns-else-number-eq0
+returns-else-number-eq0 c =
     let a = c.args in
     let b = below c.requires.sheet c.count_of-count.ensures c.if-count-number.false in
     written-later a.template.now a.h a.grid.now a.number a.block.now c.write_later.new.block b c.if-number-eq0.false

@@ -21,9 +21,9 @@ overflow_mul-result c =
     omega (arith, leading-filled a.digits a.count a.size (omega arith))
 
 pub nonzero_div-result : goal.nonzero_div-result
-nonzero_div-result c = rw (ten-is c.ten_to-2.ensures (omega arith)) (ten-pos _)
+nonzero_div-result c = rw (ten-is c.ten_to-else-count-digits.ensures (omega arith)) (ten-pos _)
 
-pub returns : goal.returns
-returns c =
+pub returns-else-count-digits : goal.returns-else-count-digits
+returns-else-count-digits c =
     let a = c.args in
-    ap (λ (x : ℕ). a.size / x) (ten-is c.ten_to-2.ensures (omega arith)) ∙ sym (leading-cut a.digits a.count a.size (omega arith))
+    ap (λ (x : ℕ). a.size / x) (ten-is c.ten_to-else-count-digits.ensures (omega arith)) ∙ sym (leading-cut a.digits a.count a.size (omega arith))

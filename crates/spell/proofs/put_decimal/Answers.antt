@@ -16,8 +16,8 @@ counted none n k e h = rw e (count_most none 18 n h)
 pub put_fraction-power-requires : goal.put_fraction-power-requires
 put_fraction-power-requires c =
     let v = to_z-of_z w64 c.args.value c.ranges.value in
-    let n = c.size_of-size.result in
-    let b : n < 10 ^ 18 = rw (rw v at c.size_of-size.ensures) c.requires.1.1 in
+    let n = c.unsigned_abs-size.result in
+    let b : n < 10 ^ 18 = rw (rw v at c.unsigned_abs-size.ensures.value) c.requires.1.1 in
     let h = puts (rw v at c.put_minus-first.ensures) (omega (arith, minus-short c.args.value)) in (
       omega (arith, h.kept, h.place, minus-short c.args.value),
       (c.requires.1.0, (counted 9 n _ c.count_of-count.ensures (omega arith), rw c.count_of-count.ensures (count-above _ 18 n b))),
@@ -26,7 +26,7 @@ put_fraction-power-requires c =
 pub put_power-requires : goal.put_power-requires
 put_power-requires c =
     let v = to_z-of_z w64 c.args.value c.ranges.value in
-    let n = c.size_of-size.result in
+    let n = c.unsigned_abs-size.result in
     let h = puts (rw v at c.put_minus-first.ensures) (omega (arith, minus-short c.args.value)) in
     let f = c.put_fraction-power.ensures in
     let digits = spell-length c.args.digits (leading c.args.digits c.count_of-count.result n) in (
@@ -43,10 +43,10 @@ returns c =
     let v = to_z-of_z w64 c.args.value c.ranges.value in
     let a = c.args in
     let these = pieces a.digits a.letter a.value in
-    let n = c.size_of-size.result in
+    let n = c.unsigned_abs-size.result in
     let h = puts (rw v at c.put_minus-first.ensures) (omega (arith, minus-short c.args.value)) in
     let e : these c.count_of-count.result n ≡ decimal a.digits a.letter a.value =
-    ap (λ (x : ℕ). these x n) c.count_of-count.ensures ∙ ap (λ (x : ℕ). these (count 9 18 x) x) (rw v at c.size_of-size.ensures)
+    ap (λ (x : ℕ). these x n) c.count_of-count.ensures ∙ ap (λ (x : ℕ). these (count 9 18 x) x) (rw v at c.unsigned_abs-size.ensures.value)
     in
     subst (λ (t : List ℕ). Puts a.text.now 0 t c.put_power.new.text c.put_power.result) e
     (joined h (joined c.put_fraction-power.ensures c.put_power.ensures))

@@ -10,7 +10,6 @@ returns c =
     let a = c.args in
     let n = c.leading_of.result in
     let b : n < 10 ^ a.digits = rw c.leading_of.ensures (leading-below a.digits a.count a.size c.requires.1.1.1) in
-    let f = puts c.put_byte-point.ensures (omega arith) in
-    let g = puts c.put_byte-first.ensures (omega (arith, f.kept, f.place)) in
-    let h = digits-put a.digits n (omega arith) b c.put_digits.ensures (omega (arith, f.kept, f.place, g.kept, g.place)) in
-    rw (← c.leading_of.ensures) (joined f (joined g h))
+    let f = puts c.put_word-first.ensures (omega arith) in
+    let h = digits-put a.digits n (omega arith) b c.put_digits.ensures (omega (arith, f.kept, f.place)) in
+    rw (← c.leading_of.ensures) (joined f h)

@@ -19,14 +19,14 @@ put_from_right-first-requires c =
     let v = to_z-of_z w64 z c.ranges.value in
     let fits = sym (rw v at c.if-not-has_places.ensures) in
     omega
-    (arith, ap length (ap numeral (rw v at c.size_of.ensures)), integer-room (length c.args.field.now) z fits, length-append (minus z) (numeral (nat_abs z)))
+    (arith, ap length (ap numeral (rw v at c.unsigned_abs.ensures.value)), integer-room (length c.args.field.now) z fits, length-append (minus z) (numeral (nat_abs z)))
 
 pub fill_before-requires : goal.fill_before-requires
 fill_before-requires c =
     let z = c.args.value in
     let v = to_z-of_z w64 z c.ranges.value in
     let fits = sym (rw v at c.if-not-has_places.ensures) in
-    let d = digits z (rw v at c.size_of.ensures) c.put_from_right-first.ensures in
+    let d = digits z (rw v at c.unsigned_abs.ensures.value) c.put_from_right-first.ensures in
     (rw v (minus-fits z d fits), digits-room z d)
 
 pub returns-clause-written : goal.returns-clause-written
@@ -34,5 +34,5 @@ returns-clause-written c =
     let z = c.args.value in
     let v = to_z-of_z w64 z c.ranges.value in
     let fits = sym (rw v at c.if-not-has_places.ensures) in
-    let d = digits z (rw v at c.size_of.ensures) c.put_from_right-first.ensures in
+    let d = digits z (rw v at c.unsigned_abs.ensures.value) c.put_from_right-first.ensures in
     rw fits ((rw v at c.fill_before.ensures) ∙ field-text z d)

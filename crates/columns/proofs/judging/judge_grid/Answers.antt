@@ -5,4 +5,4 @@ use Rattle.columns.proofs.judging.judge_grid.Goals as goal
 
 pub overflow_mul-cells : goal.overflow_mul-cells
 overflow_mul-cells c =
-    omega (arith, cells-most c.args.h c.requires c.columns-columns.result c.rows-rows.result c.columns-columns.ensures c.rows-rows.ensures)
+    omega (arith, cells-most c.args.h c.requires c.columns.result c.rows.result c.columns.ensures c.rows.ensures)

@@ -1,25 +1,25 @@
 -- The template first, then the grid: GridJudged.
-use Rattle.std.proofs.Common.{◌≡◌, ◌∙◌, rules}
-use Rattle.sheet.specs.RecordA.{record_a}
-use Rattle.sheet.specs.declared.Checked.TheVariants.{Sheet, Refused}
+use Rattle.std.proofs.Common.{◌∙◌, sym, length, ne_eqb}
+use Rattle.kinds.specs.Kinds.{number_of}
 use Rattle.sheet.proofs.SheetObeys.{sheet-obeys}
-use Rattle.columns.proofs.GridJudged.{template-length, template-refused, template-sheet}
+use Rattle.written.specs.Sending.{sheet_objection}
+use Rattle.columns.proofs.GridJudged.{template-refused, template-sheet}
 use Rattle.columns.proofs.judging.judge_sheet.Goals as goal
 
 pub returns-then-template-ne1024 : goal.returns-then-template-ne1024
-returns-then-template-ne1024 c = template-length c.args.template.now c.args.grid.now c.if-template-ne1024.true
+unfolding sheet_objection
+returns-then-template-ne1024 c = rw (c.of.ensures, ne_eqb (length c.args.template.now) 1024 c.if-template-ne1024.true)
 
 pub judge_grid-requires : goal.judge_grid-requires
-judge_grid-requires c =
-    let e : record_a c.args.template.now ≡ Sheet c.in-Sheet.h = search rules in
-    sheet-obeys c.args.template.now c.in-Sheet.h e
+judge_grid-requires c = sheet-obeys c.args.template.now c.in-Ok.h (sym c.in-Ok.ensures)
 
-pub returns-in-Refused : goal.returns-in-Refused
-returns-in-Refused c =
-    let e : record_a c.args.template.now ≡ Refused c.in-Refused.kind c.in-Refused.byte = search rules in
-    template-refused c.args.template.now c.args.grid.now c.if-template-ne1024.false c.in-Refused.kind c.in-Refused.byte e
+pub returns-in-Ok : goal.returns-in-Ok
+returns-in-Ok c =
+    c.judge_grid.ensures
+    ∙ template-sheet c.args.template.now c.args.grid.now c.if-template-ne1024.false c.in-Ok.h (sym c.in-Ok.ensures)
 
-pub returns-in-Sheet : goal.returns-in-Sheet
-returns-in-Sheet c =
-    let e : record_a c.args.template.now ≡ Sheet c.in-Sheet.h = search rules in
-    c.judge_grid.ensures ∙ template-sheet c.args.template.now c.args.grid.now c.if-template-ne1024.false c.in-Sheet.h e
+pub returns-in-Err : goal.returns-in-Err
+returns-in-Err c =
+    let b = c.in-Err.b in
+    rw (c.of-in-Err.ensures, c.from.ensures)
+    (template-refused c.args.template.now c.args.grid.now c.if-template-ne1024.false (number_of b.kind) b.byte (sym c.in-Err.ensures))

@@ -1,21 +1,14 @@
--- One number more.
-use Rattle.std.proofs.Common.{◌+◌, ◌∙◌, ℤ, List, pos, get_or, ap, arith, rules, w64}
-use Rattle.std.proofs.Math.ListN.{set}
-use mir.Val.{SFits}
-use mir.Facts.{to_z-of_z}
-use Rattle.laws.proofs.Cells.{place-more}
+-- What is copied stands between what was before it and behind it.
+use Rattle.std.proofs.Common.{◌≡◌, ◌∙◌, ℕ, ℤ, List, ◌+◌, ◌-◌, ◌++◌, length, take, drop, ap, append_assoc, arith, rules}
+use Rattle.std.proofs.lemmas.List.{drop-drop}
+use Rattle.std.proofs.lemmas.List.Edits.{sets-eq}
 use Rattle.ledger.proofs.row.put_row.Goals as goal
 
-pub loop-i-preserved : goal.loop-i-preserved
-loop-i-preserved c =
+pub returns : goal.returns
+returns c =
     let a = c.args in
-    let l = c.loop-i in
-    let v = get_or a.row.now l.i (pos 0) in
-    let fits : SFits w64 v = search rules in
-    record {
-      few = omega arith;
-      stands =
-          ap (λ (x : ℤ). set l.numbers (a.at + l.i) x) (to_z-of_z fits)
-          ∙ ap (λ (x : List ℤ). set x (a.at + l.i) v) l.invariant.stands
-          ∙ place-more a.numbers.now a.at a.row.now l.i (pos 0) (omega arith);
-    }
+    let row : c.copy_from_slice.new.self ≡ a.row.now = search rules in
+    let end : a.at + (a.at + length a.row.now - a.at) ≡ a.at + length a.row.now = omega arith in
+    rw (row, sets-eq a.row.now a.numbers.now a.at c.requires, append_assoc)
+    (ap (λ (rest : List ℤ). take a.at a.numbers.now ++ (a.row.now ++ rest))
+    (drop-drop (a.at + length a.row.now - a.at) a.at a.numbers.now ∙ ap (λ (n : ℕ). drop n a.numbers.now) end))

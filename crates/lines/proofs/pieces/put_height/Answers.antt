@@ -14,5 +14,5 @@ pub returns : goal.returns
 returns c =
     let a = within 12 c.put_word-sign.ensures (omega arith) (omega arith) in
     let m = within 1 c.put_minus-first.ensures (minus-short (to_z w64 (of_z w64 c.args.z))) (omega (arith, a.short, a.puts.kept)) in
-    rw (← to_z-of_z c.ranges.z, ← c.size_of.ensures)
+    rw (← to_z-of_z c.ranges.z, ← c.unsigned_abs.ensures.value)
     (wider (omega arith) (then a (then m c.put_hundredths.ensures)))

@@ -13,6 +13,6 @@ returns-then-b-eq0 c =
     rw (eq-eqb (b % 10 ^ 9) 0 c.if-b-eq0.true)
     (wider (omega arith) (within 20 c.put_number.ensures (numeral-short (b / 10 ^ 9)) (omega arith)))
 
-pub returns : goal.returns
+pub returns-else-b-eq0 : goal.returns-else-b-eq0
 unfolding spacing
-returns c = rw (ne_eqb (c.args.b % 10 ^ 9) 0 c.if-b-eq0.false) c.put_hundredths.ensures
+returns-else-b-eq0 c = rw (ne_eqb (c.args.b % 10 ^ 9) 0 c.if-b-eq0.false) c.put_hundredths.ensures

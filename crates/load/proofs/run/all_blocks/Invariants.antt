@@ -1,5 +1,5 @@
--- After i blocks the run stands where the definition says.
-use Rattle.std.proofs.Common.{◌-◌, ◌≡◌, true, ◌≤◌, ◌<◌, ◌^◌, length, ◌+◌}
+-- After i blocks the run stands where the definition says, and none of them was refused.
+use Rattle.std.proofs.Common.{◌≡◌, true, ◌<◌, ◌^◌, length, ◌+◌}
 use Rattle.delivery.specs.Deliver.{lend}
 use Rattle.runs.specs.Run.{run_to}
 use Rattle.load.specs.Steps.{Pacing, standing}
@@ -11,9 +11,6 @@ invariant-loop-i l =
       pacing : Pacing (length l.grid) l.p;
       stands : standing l.p.ran l.grid ≡ run_to l.fn.s l.number l.blocks (lend l.fn.grid) l.i;
       room : length l.scratch ≡ 170;
-      few : l.i ≤ l.n;
-      number_fits : l.p.more ≡ true → l.number + l.i < 2 ^ 64;
+      more : l.p.more ≡ true;
+      number_fits : l.number + l.i < 2 ^ 64;
     }
-
-abbrev pub decreases-loop-i : goal.decreases-loop-i
-decreases-loop-i l = l.n - l.i

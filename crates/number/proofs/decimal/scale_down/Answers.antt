@@ -3,12 +3,17 @@ use Rattle.std.proofs.Common.{◌≡◌, ℕ, ◌<◌, ◌^◌, ◌%◌, sym, su
 use Rattle.laws.proofs.Tens.{ten-pos}
 use Rattle.number.proofs.Scale.{too-deep}
 use Rattle.number.proofs.Tens.{ten-is}
+use Rattle.number.proofs.decimal.scale_down.Goals.{then-more-via-then-more, then-more-via-else-more+then-d-ge15}
 use Rattle.number.proofs.decimal.scale_down.Goals as goal
 
-pub returns-then-d-ge15 : goal.returns-then-d-ge15
-returns-then-d-ge15 c =
+pub returns-then-more : goal.returns-then-more
+returns-then-more c =
     let a = c.args in
-    simp (c.if-more.false, ne_eqb (a.head % 10 ^ a.d) 0 (too-deep a.head a.d c.requires.0 c.requires.1 c.if-d-ge15.true))
+    elim c.then-more.branch [
+      | then-more-via-then-more w ↦ simp w.if-more.true
+      | then-more-via-else-more+then-d-ge15 w
+          ↦ simp (w.if-more.false, ne_eqb (a.head % 10 ^ a.d) 0 (too-deep a.head a.d c.requires.0 c.requires.1 w.if-d-ge15.true))
+    ]
 
 pub nonzero_rem-head : goal.nonzero_rem-head
 nonzero_rem-head c =

@@ -3,16 +3,20 @@ use Rattle.std.proofs.Common.{◌≡◌, ℕ, ◌-◌, ◌*◌, ◌≤◌, ◌<�
 use Rattle.std.proofs.lemmas.Bool.{le-leb, lt-leb}
 use Rattle.number.proofs.Scale.{steep, reaches, stays}
 use Rattle.number.proofs.Tens.{ten-is}
+use Rattle.number.proofs.decimal.scale_up.Goals.{then-d-ge18-via-then-d-ge18, then-d-ge18-via-else-d-ge18+then-ten_to-head}
 use Rattle.number.proofs.decimal.scale_up.Goals as goal
 
 pub returns-then-d-ge18 : goal.returns-then-d-ge18
-returns-then-d-ge18 c = simp (le-leb _ _ (steep c.args.head c.args.d c.requires.0 c.if-d-ge18.true))
-
-pub returns-then-ten_to-head : goal.returns-then-ten_to-head
-returns-then-ten_to-head c =
-    let e : c.ten_to.result ≡ 10 ^ (18 - c.args.d) = ten-is c.ten_to.ensures (omega arith) in
-    let h = subst (λ (x : ℕ). x ≤ c.args.head) e c.if-ten_to-head.true in
-    simp (le-leb _ _ (reaches c.args.head c.args.d c.if-d-ge18.false h))
+returns-then-d-ge18 c =
+    let a = c.args in
+    let large : 10 ^ 18 ≤ a.head * 10 ^ a.d =
+    elim c.then-d-ge18.branch [
+      | then-d-ge18-via-then-d-ge18 w ↦ steep a.head a.d c.requires.0 w.if-d-ge18.true
+      | then-d-ge18-via-else-d-ge18+then-ten_to-head w
+          ↦ reaches a.head a.d w.if-d-ge18.false (subst (λ (x : ℕ). x ≤ a.head) (ten-is w.ten_to.ensures (omega arith)) w.if-ten_to-head.true)
+    ]
+    in
+    simp (le-leb _ _ large)
 
 -- past the second test the product is below the limit
 modest : (head d r : ℕ) → r ≡ 10 ^ (18 - d) → d < 18 → head < r → head * 10 ^ d < 10 ^ 18

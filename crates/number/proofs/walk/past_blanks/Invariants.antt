@@ -1,5 +1,5 @@
 -- Past the blanks: the invariant is that what is left to pass is what there was to pass at the start.
-use Rattle.std.proofs.Common.{◌≡◌, ◌≤◌, ◌-◌, length, drop}
+use Rattle.std.proofs.Common.{◌≡◌, ◌≤◌, length, drop}
 use Rattle.number.specs.Bytes.{is_blank, past_all}
 use Rattle.number.proofs.walk.past_blanks.Given as goal
 
@@ -9,6 +9,3 @@ invariant-loop-i l = record {
   inside : l.i ≤ length l.s;
   left : past_all is_blank (drop l.i l.s) ≡ past_all is_blank (drop l.fn.from l.s);
 }
-
-abbrev pub decreases-loop-i : goal.decreases-loop-i
-decreases-loop-i l = length l.s - l.i

@@ -1,36 +1,32 @@
--- The verdict: length, fields, rest; Verdicts has why.
-use Rattle.std.proofs.Common.{◌≡◌, ap, ◌∙◌, sym, true, false}
-use Rattle.field.specs.Field.{first_of}
-use Rattle.profile.specs.RecordC.{fields_c}
-use Rattle.profile.specs.Steps.{half_fault}
-use Rattle.profile.proofs.Verdicts.{c-length, c-refused, c-rest}
+-- The second half and the rest, behind a first half without fault.
+use Rattle.std.proofs.Common.{◌≡◌, sym, ◌∙◌, ap}
+use Rattle.std.specs.Prelude.{Err}
+use Rattle.field.specs.Field.{fault, first_of}
+use Rattle.field.specs.Told.{fault_told}
+use Rattle.profile.specs.RecordC.{half_fields}
+use Rattle.profile.proofs.Verdicts.{err-told, c_second, c_rest, c_good}
 use Rattle.profile.proofs.record_c.check_record_c.Goals as goal
 
-pub returns-then-block-ne1024 : goal.returns-then-block-ne1024
-returns-then-block-ne1024 c = c-length c.args.block.now c.if-block-ne1024.true
-
--- the fault that the halves found is the first of the ten fields'
-pub returns-then-f-ne0 : goal.returns-then-f-ne0
-returns-then-f-ne0 c =
+pub returns-in_err-check_half-2 : goal.returns-in_err-check_half-2
+returns-in_err-check_half-2 c =
     let b = c.args.block.now in
-    let e : c.half_fault-f.result ≡ first_of (fields_c b) =
-    c.half_fault-f.ensures ∙ ap (half_fault 1 b) (c.half_fault-second.ensures ∙ ap (half_fault 31 b) c.no_fault.ensures)
+    let one : fault 0 0 ≡ first_of (half_fields 1 b) = c.in_ok-check_half.ensures in
+    let broken = c.in_err-check_half-2.field-0.0 in
+    let told : c.from_residual-in_err-check_half-2.result ≡ Err broken =
+    err-told _ broken _ (λ e q. q) c.from_residual-in_err-check_half-2.ensures
     in
-    c-refused b c.if-block-ne1024.false c.half_fault-f.result e c.if-f-ne0.true
+    ap fault_told told ∙ c_second b c.if-block-ne1024.false one broken c.in_err-check_half-2.ensures
 
-pub returns-then-blank_from : goal.returns-then-blank_from
-returns-then-blank_from c =
+pub returns-then-not-blank_from : goal.returns-then-not-blank_from
+returns-then-not-blank_from c =
     let b = c.args.block.now in
-    let e : c.half_fault-f.result ≡ first_of (fields_c b) =
-    c.half_fault-f.ensures ∙ ap (half_fault 1 b) (c.half_fault-second.ensures ∙ ap (half_fault 31 b) c.no_fault.ensures)
-    in
-    c.no_fault-then-blank_from.ensures
-    ∙ c-rest b c.if-block-ne1024.false c.half_fault-f.result e c.if-f-ne0.false true (sym c.blank_from.ensures ∙ c.if-blank_from.true)
+    let one : fault 0 0 ≡ first_of (half_fields 1 b) = c.in_ok-check_half.ensures in
+    let two : fault 0 0 ≡ first_of (half_fields 31 b) = c.in_ok-check_half-2.ensures in
+    rw c.at-then-not-blank_from.ensures (c_rest b c.if-block-ne1024.false one two (sym c.blank_from.ensures ∙ c.if-not-blank_from.true))
 
 pub returns : goal.returns
 returns c =
     let b = c.args.block.now in
-    let e : c.half_fault-f.result ≡ first_of (fields_c b) =
-    c.half_fault-f.ensures ∙ ap (half_fault 1 b) (c.half_fault-second.ensures ∙ ap (half_fault 31 b) c.no_fault.ensures)
-    in
-    c-rest b c.if-block-ne1024.false c.half_fault-f.result e c.if-f-ne0.false false (sym c.blank_from.ensures ∙ c.if-blank_from.false)
+    let one : fault 0 0 ≡ first_of (half_fields 1 b) = c.in_ok-check_half.ensures in
+    let two : fault 0 0 ≡ first_of (half_fields 31 b) = c.in_ok-check_half-2.ensures in
+    c_good b c.if-block-ne1024.false one two (sym c.blank_from.ensures ∙ c.if-not-blank_from.false)

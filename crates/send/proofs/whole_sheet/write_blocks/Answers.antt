@@ -1,5 +1,5 @@
 -- Block 0 in the buffer's first stretch, the columns behind it: WholeText has the whole buffer.
-use Rattle.std.proofs.Common.{◌≡◌, ◌∙◌, ◌≤◌, ◌++◌, ℕ, ℤ, List, refl, length, take, drop, arith}
+use Rattle.std.proofs.Common.{◌≡◌, ◌∙◌, ◌≤◌, ◌++◌, ℕ, ℤ, List, refl, sym, length, take, drop, arith}
 use Rattle.std.proofs.Math.Seq.{length-take-le}
 use Rattle.numerals.specs.Pieces.{Puts}
 use Rattle.frame.specs.declared.Header.{Header}
@@ -26,6 +26,9 @@ module _ {template : List ℕ} {h : Header} {grid : List ℤ} {out : List ℕ} (
 pub slice_bounds-write_title-end : goal.slice_bounds-write_title-end
 slice_bounds-write_title-end c = room c.requires
 
+pub slice_bounds-write_title-end-2 : goal.slice_bounds-write_title-end-2
+slice_bounds-write_title-end-2 c = sym (length-take-le 1024 c.args.out.now (room c.requires))
+
 pub write_columns-requires : goal.write_columns-requires
 write_columns-requires c =
     let z = c.write_title in
@@ -34,6 +37,5 @@ write_columns-requires c =
 pub returns : goal.returns
 returns c =
     let z = c.write_title in
-    let w = c.write_columns in
-    whole-put c.args.h c.args.grid.now c.args.template.now (zero-put c.requires z.new.block z.ensures z.auto.block) w.ensures.0
-    w.ensures.1
+    whole-put c.args.h c.args.grid.now c.args.template.now (zero-put c.requires z.new.block z.ensures z.auto.block) c.write_columns.ensures
+    refl

@@ -1,7 +1,6 @@
 -- The column's blocks one behind the other; WholeText has one more.
 use Rattle.std.proofs.Common.{◌≡◌, ◌∙◌, ◌+◌, ◌*◌, ◌≤◌, ◌<◌, ◌-◌, ℕ, ℤ, List, ap, length, take, drop, length-drop, arith}
 use Rattle.std.proofs.Math.Seq.{length-take-le}
-use Rattle.numerals.proofs.Pieces.{put-none}
 use Rattle.frame.specs.declared.Header.{Header}
 use Rattle.ground.specs.Posts.{blocks_for}
 use Rattle.written.specs.Cells.{column_cells, cells_sent}
@@ -38,9 +37,6 @@ module _ {h : Header} {grid : List ℤ} {column at : ℕ} {before : List ℕ} (a
         long = long;
       }
 
-pub loop-k-init : goal.loop-k-init
-loop-k-init c = (omega arith, (omega arith, put-none _ _))
-
 pub write_profile_block-requires : goal.write_profile_block-requires
 write_profile_block-requires c =
     let v = c.loop-k.invariant in
@@ -49,8 +45,8 @@ write_profile_block-requires c =
     let from = c.loop-k.from in
     let n = from + 1024 - from in
     let e : n ≡ 1024 = omega arith in
-    let r = room c.requires x.result x.ensures c.blocks_for-blocks.ensures out v.1.0 v.1.1.kept c.loop-k-test.true in
-    asked c.requires x.result x.ensures c.blocks_for-blocks.ensures (take n (drop from out)) c.loop-k-test.true
+    let r = room c.requires x.result x.ensures c.blocks_for-k-end.ensures out v.0 v.1.kept c.loop-k-test.true in
+    asked c.requires x.result x.ensures c.blocks_for-k-end.ensures (take n (drop from out)) c.loop-k-test.true
     (length-take-le n (drop from out) (omega (arith, e, r, length-drop from out)) ∙ e)
 
 pub loop-k-preserved : goal.loop-k-preserved
@@ -59,21 +55,18 @@ loop-k-preserved c =
     let x = c.column_of-found in
     let from = c.loop-k.from in
     let e : from + 1024 - from ≡ 1024 = omega arith in
-    let r = room c.requires x.result x.ensures c.blocks_for-blocks.ensures c.loop-k.out v.1.0 v.1.1.kept c.loop-k-test.true in
+    let r = room c.requires x.result x.ensures c.blocks_for-k-end.ensures c.loop-k.out v.0 v.1.kept c.loop-k-test.true in
     let put =
     block-put c.loop-k.out (profile_block c.args.h c.args.grid.now c.args.column c.loop-k.k) from (from + 1024 - from) r e
     c.write_profile_block.new.block c.write_profile_block.ensures c.write_profile_block.auto.block
-    in (
-      omega arith,
-      (omega (arith, v.1.0), block_more c.args.h c.args.grid.now c.args.column c.loop-k.k v.1.1 put),
-    )
+    in (omega (arith, v.0), block_more c.args.h c.args.grid.now c.args.column c.loop-k.k v.1 put)
 
 pub returns : goal.returns
 returns c =
     let v = c.loop-k.invariant in
     let x = c.column_of-found in
-    let e : c.loop-k.k ≡ c.blocks_for-blocks.result = omega arith in
-    let b = e ∙ blocks-are c.requires x.result x.ensures c.blocks_for-blocks.ensures in (
-      named (ap (blocks_text c.args.h c.args.grid.now c.args.column) b) v.1.1,
-      v.1.0 ∙ ap (λ (n : ℕ). c.args.at + 1024 * n) b,
+    let e : c.loop-k.k ≡ c.blocks_for-k-end.result = omega arith in
+    let b = e ∙ blocks-are c.requires x.result x.ensures c.blocks_for-k-end.ensures in (
+      named (ap (blocks_text c.args.h c.args.grid.now c.args.column) b) v.1,
+      v.0 ∙ ap (λ (n : ℕ). c.args.at + 1024 * n) b,
     )

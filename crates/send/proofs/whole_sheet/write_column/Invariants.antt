@@ -1,13 +1,9 @@
 -- After k turns the column's first k blocks stand.
-use Rattle.std.proofs.Common.{◌≡◌, ◌+◌, ◌*◌, ◌-◌, ◌≤◌}
+use Rattle.std.proofs.Common.{◌≡◌, ◌+◌, ◌*◌}
 use Rattle.numerals.specs.Pieces.{Puts}
 use Rattle.send.specs.WholeSteps.{blocks_text}
 use Rattle.send.proofs.whole_sheet.write_column.Given as goal
 
 abbrev pub invariant-loop-k : goal.invariant-loop-k
 invariant-loop-k l =
-    (l.k ≤ l.blocks)
-    × ((l.from ≡ l.at + 1024 * l.k) × Puts l.fn.out l.at (blocks_text l.h l.grid l.column l.k) l.out l.from)
-
-abbrev pub decreases-loop-k : goal.decreases-loop-k
-decreases-loop-k l = l.blocks - l.k
+    (l.from ≡ l.at + 1024 * l.k) × Puts l.fn.out l.at (blocks_text l.h l.grid l.column l.k) l.out l.from

@@ -22,7 +22,7 @@ returns-then-out-count c =
     let m = many c.requires.sheet c.count_of-count.ensures in
     let t : eqb (length a.out.now) (1024 * count) ≡ false
     = ne_eqb (length a.out.now) (1024 * count) (λ e. c.if-out-count.true (e ∙ sym m)) in
-    rw t (refl, refl)
+    rw (c.of.ensures, t) (refl, refl)
 
 pub write_blocks-requires : goal.write_blocks-requires
 write_blocks-requires c =

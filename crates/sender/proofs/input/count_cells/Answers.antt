@@ -6,4 +6,4 @@ use Rattle.sender.proofs.input.count_cells.Goals as goal
 pub returns : goal.returns
 returns c =
     let text = c.args.text.now in
-    (sym (good-count text c.if-bytes-gt60000.false c.if-bytes-ne0.false), (all-fours text c.if-bytes-ne0.false, omega arith))
+    (sym (good-count text (omega arith) (omega arith)), (all-fours text (omega arith), omega arith))

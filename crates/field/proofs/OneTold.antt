@@ -1,0 +1,35 @@
+-- What the code answers is one to one with what the definitions say of it: limits, and faults of checks. Kinds carry it: no two have one number, and
+-- none has the number 0.
+use Rattle.std.proofs.Common.{◌≡◌, refl, sym, ◌∙◌, ap}
+use Rattle.std.specs.Prelude.{Result, Ok, Err, eqb}
+use Rattle.kinds.proofs.Numbers.{one-number, not-zero}
+use Rattle.kinds.specs.Kinds.{number_of}
+use Rattle.laws.proofs.Tests.{clash}
+use Rattle.field.specs.Field.{Limits, Fault, fault}
+use Rattle.field.specs.Told.{limits_told, fault_told}
+use Rattle.field.specs.declared.Bounds.{Bounds}
+use Rattle.field.specs.declared.Broken.{Broken}
+
+pub limits-one : (a b : Bounds) → limits_told a ≡ limits_told b → a ≡ b
+limits-one a b e =
+    let k : a.kind ≡ b.kind = one-number a.kind b.kind (ap (λ (l : Limits). l.kind) e) in
+    λ i. record { least = (ap (λ (l : Limits). l.least) e) i; greatest = (ap (λ (l : Limits). l.greatest) e) i; step = (ap (λ (l : Limits). l.step) e) i; kind = k i }
+
+broken-one : (a b : Broken) → fault (number_of a.kind) a.byte ≡ fault (number_of b.kind) b.byte → a ≡ b
+broken-one a b e =
+    let k : a.kind ≡ b.kind = one-number a.kind b.kind (ap (λ (f : Fault). f.kind) e) in
+    λ i. record { kind = k i; byte = (ap (λ (f : Fault). f.byte) e) i }
+
+-- a good answer is not a refused one
+good-or-broken : (b : Broken) → fault 0 0 ≡ fault (number_of b.kind) b.byte → ⊥
+good-or-broken b e = clash (ap (λ (f : Fault). eqb f.kind 0) e ∙ not-zero b.kind)
+
+-- so answers that come to one fault are one, where good answers are
+pub told-one : {A : Type 0} (a b : Result A Broken) → ((x y : A) → a ≡ Ok x → b ≡ Ok y → x ≡ y) → fault_told a ≡ fault_told b → a ≡ b
+told-one (Ok x) (Ok y) one e = ap Ok (one x y refl refl)
+told-one (Ok x) (Err b) one e = absurd (good-or-broken b e)
+told-one (Err a) (Ok y) one e = absurd (good-or-broken a (sym e))
+told-one (Err a) (Err b) one e = ap Err (broken-one a b e)
+
+pub checked-one : (a b : Result Unit Broken) → fault_told a ≡ fault_told b → a ≡ b
+checked-one a b e = told-one a b (λ x y p q. refl) e

@@ -1,0 +1,7 @@
+use Rattle.std.proofs.Common.{rules}
+use Rattle.number.specs.Bytes.{is_blank}
+use Rattle.laws.proofs.Everys.{every-all}
+use Rattle.six.proofs.all_blank.Goals as goal
+
+pub returns : goal.returns
+returns c = every-all is_blank c.args.s.now c.all.result (search rules)
