@@ -41,7 +41,7 @@ fn column_at(rows: usize, grid: &[i32], c: usize) -> Column
     columns::scan_column(&grid[from..end])
 }
 
-// A column's profile: its first row and its posts. No row and no post where the grid does not fit.
+// A column's profile: its first row and its posts. Kept: no row and no post where the grid does not fit, as `column_by` promises it.
 pub fn column_of(h: Header, grid: &[i32], c: usize) -> Column
     ensures { result ≡ column_by h grid.now c }
 {

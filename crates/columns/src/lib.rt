@@ -73,7 +73,7 @@ pub fn count_sendable(z: u64, cells: &[i32]) -> usize
         .unwrap_or(cells.len())
 }
 
-// "voids between as -32767"
+// "voids between as -32767". Kept: the sign put by hand; over `number::signed` the check did not close this by itself.
 pub fn post_of(z: u64, cell: i32) -> i64
     ensures { result ≡ post_of z cell }
 {

@@ -38,12 +38,8 @@ fn arc_seconds(block: &[u8], first: usize) -> i64
     let degrees = size_at(block, first, 4);
     let minutes = size_at(block, first + 4, 2);
     let seconds = seconds_at(block, first + 6);
-    let size = (degrees * DEGREE + minutes * MINUTE + seconds) as i64;
-    if number::is_minus(field::stretch_of(block, first, 4)) {
-        -size
-    } else {
-        size
-    }
+    let minus = number::is_minus(field::stretch_of(block, first, 4));
+    number::signed(minus, degrees * DEGREE + minutes * MINUTE + seconds)
 }
 
 // Whether the text says this corner, longitude x and latitude y. Any block is answered.

@@ -1,7 +1,7 @@
 -- What the code answers is one to one with what the definitions say of it: limits, and faults of checks. Kinds carry it: no two have one number, and
 -- none has the number 0.
 use Rattle.std.proofs.Common.{◌≡◌, refl, sym, ◌∙◌, ap}
-use Rattle.std.specs.Prelude.{Result, Ok, Err, eqb}
+use Rattle.std.specs.Prelude.{Result, Ok, Err, IsErr, IsErrAnd, eqb}
 use Rattle.kinds.proofs.Numbers.{one-number, not-zero}
 use Rattle.kinds.specs.Kinds.{number_of}
 use Rattle.laws.proofs.Tests.{clash}
@@ -33,3 +33,8 @@ told-one (Err a) (Err b) one e = ap Err (broken-one a b e)
 
 pub checked-one : (a b : Result Unit Broken) → fault_told a ≡ fault_told b → a ≡ b
 checked-one a b e = told-one a b (λ x y p q. refl) e
+
+-- what `?` hands on is the error that it met
+pub err-told : {A E : Type 0} (r : Result A E) (b : E) (P : E → Type 0) → ((e : E) → P e → e ≡ b) → IsErr r × IsErrAnd r P → r ≡ Err b
+err-told (Ok a) b P f q = absurd q.1
+err-told (Err e) b P f q = ap Err (f e q.1)

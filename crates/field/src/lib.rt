@@ -47,7 +47,7 @@ pub fn bounds_of(least: u64, greatest: u64, step: u64, kind: Kind) -> Bounds
     }
 }
 
-// The posts that a profile may have, by the family.
+// The posts that a profile may have, by the family. Kept, here and in the rooms above: a family by its number, as a session has it.
 pub fn posts_limits(family: u64) -> Bounds
     ensures { limits_told result ≡ posts_limits family }
 {

@@ -45,6 +45,7 @@ fn least_of(a: i64, b: i64, c: i64, d: i64) -> i64
     a.min(b).min(c.min(d))
 }
 
+// In this order the library's `max` is `greater` to the letter.
 fn greatest_of(a: i64, b: i64, c: i64, d: i64) -> i64
     ensures { result ≡ greater (greater a b) (greater c d) }
 {

@@ -16,7 +16,7 @@ fn number_at(numbers: &[i64], i: usize) -> i64
 fn count_at(numbers: &[i64], i: usize) -> u64
     ensures { (result ≡ count_kept numbers.now i) × (result < 2 ^ 63) }
 {
-    number_at(numbers, i).max(0).unsigned_abs()
+    figures::not_negative(number_at(numbers, i))
 }
 
 fn corner_at(numbers: &[i64], i: usize, j: usize) -> Corner

@@ -7,7 +7,7 @@ ghost use Rattle.ledger.specs.Row.{with_sign, header_row, count_row, profile_row
 use frame::Header;
 use session::{Profile, Session};
 
-// The greatest number of 64 bits with a sign for a greater one.
+// The greatest number of 64 bits with a sign for a greater one. Kept: this line stands in title too, over a definition of its own.
 fn signed(n: u64) -> i64
     ensures { result ≡ with_sign n }
 {

@@ -1,12 +1,13 @@
 -- A run, block by block: what the first tests ask of session and grid holds again after each block that is not refused.
 use mathlib.Core.Bool.{Bool, true, false}
-use mathlib.Core.List.{List}
+use mathlib.Core.List.{List, ◌++◌}
 use mathlib.Core.Path.{◌≡◌, refl, sym, ◌∙◌, ap}
-use Prim.Native.Nat.{ℕ, ◌≤◌, ◌+◌, ◌-◌, ◌*◌}
+use Prim.Native.Nat.{ℕ, ◌≤◌, ◌+◌, ◌*◌}
 use native.Mathlib.Omega.{arith}
 use lib.Dec.{leb}
 use lib.IntN.{ℤ}
-use lib.ListN.{length, take, drop}
+use lib.ListN.{length, take, drop, length-append, length-drop}
+use Rattle.std.proofs.lemmas.List.{take_at, drop_at, drop-drop}
 use Rattle.ground.specs.Blocks.{block_at}
 use Rattle.laws.proofs.Tests.{clash}
 use Rattle.frame.specs.Frame.{cells_of}
@@ -77,16 +78,27 @@ module _ (s : Session) (number count : ℕ) (block : List ℕ) (grid after : Lis
 
 -- ---- the loop over a run's blocks
 
--- block i as the code cuts it out
-pub block-part : (blocks : List ℕ) (i : ℕ) → take (1024 * i + 1024 - 1024 * i) (drop (1024 * i) blocks) ≡ block_at blocks i
-block-part blocks i = ap (λ (n : ℕ). take n (drop (1024 * i) blocks)) (let e : 1024 * i + 1024 - 1024 * i ≡ 1024 = omega arith in e)
+-- block i, cut off the front of what i blocks leave, and what is left then
+module _ (blocks part rest : List ℕ) (i : ℕ) (e : part ++ rest ≡ drop (1024 * i) blocks) (long : length part ≡ 1024) where
+  block-part : part ≡ block_at blocks i
+  block-part = sym (take_at part rest 1024 long) ∙ ap (take 1024) e
+
+  pub block-rest : rest ≡ drop (1024 * (i + 1)) blocks
+  block-rest =
+      sym (drop_at part rest 1024 long)
+      ∙ ap (drop 1024) e
+      ∙ drop-drop 1024 (1024 * i) blocks
+      ∙ ap (λ (n : ℕ). drop n blocks) (let m : 1024 * i + 1024 ≡ 1024 * (i + 1) = omega arith in m)
+
+  pub block-within : 1024 * (i + 1) ≤ length blocks
+  block-within = omega (arith, length-append part rest, ap length e, length-drop (1024 * i) blocks, long)
 
 module _ (s : Session) (number : ℕ) (blocks : List ℕ) (lent : Lent) (r : Running) (i : ℕ) (is : r ≡ run_to s number blocks lent i) where
   -- one turn
-  pub turned : is_refused r.answer ≡ false → {part : List ℕ} → part ≡ block_at blocks i
-      → with_block r (number + i) part ≡ run_to s number blocks lent (i + 1)
-  turned e p =
-      ap (with_block r (number + i)) p
+  pub turned : is_refused r.answer ≡ false → (part rest : List ℕ) {k : ℕ} → k ≡ i → part ++ rest ≡ drop (1024 * i) blocks → length part ≡ 1024
+      → with_block r (number + k) part ≡ run_to s number blocks lent (i + 1)
+  turned e part rest at p long =
+      (λ j. with_block r (number + at j) (block-part blocks part rest i p long j))
       ∙ sym (goes_on r (number + i) (block_at blocks i) e)
       ∙ ap (λ (x : Running). go_on x (number + i) (block_at blocks i)) is
       ∙ sym (run-next s number blocks lent i)

@@ -14,6 +14,7 @@ use runs::Ran;
 use session::Session;
 
 // Where a run stands: what it would return, whether the cells lent are enough for the session's sheet, and whether no block was refused.
+// Kept: that last beside the answer, which is moved into what is returned.
 #[derive(Drop)]
 pub(crate) struct Pace {
     pub ran: Ran,
@@ -100,10 +101,7 @@ pub(crate) fn all_blocks(s: Session, number: u64, blocks: &[u8], grid: &mut [i32
         roomy: frame::has_room(s.header, grid.len() as u64),
         more: true,
     };
-    // Kept: blocks by their number, since the library here has no `chunks_exact`.
-    for i in 0..blocks.len() / 1024 {
-        let from = 1024 * i;
-        let block = &blocks[from..from + 1024];
+    for (i, block) in blocks.chunks_exact(1024).enumerate() {
         p = next_block(p, number + i as u64, block, &mut scratch, grid);
         if !p.more {
             break;

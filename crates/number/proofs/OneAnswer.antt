@@ -6,7 +6,6 @@ use Rattle.number.proofs.is_minus.Reads as is-minus·told
 use Rattle.number.proofs.read_integer.Reads as read-integer·told
 use Rattle.number.proofs.read_real.Reads as read-real·told
 use Rattle.number.proofs.signed.Reads as signed·told
-use Rattle.number.proofs.size_of.Reads as size-of·told
 use Rattle.number.proofs.ten_to.Reads as ten-to·told
 
 pub of : OneResult of·told.Learnt
@@ -17,9 +16,6 @@ ten-to κs a z z' e e' p q = one_answer p q
 
 pub signed : OneResult signed·told.Learnt
 signed κs a z z' e e' p q = one_answer p q
-
-pub size_of : OneResult size-of·told.Learnt
-size_of κs a z z' e e' p q = one_answer p q
 
 pub read-integer : OneResult read-integer·told.Learnt
 read-integer κs a z z' e e' p q = said-one z z' (one_answer p q)

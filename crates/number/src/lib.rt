@@ -70,13 +70,6 @@ pub fn ten_to(k: usize) -> u64
     }
 }
 
-// A number without its sign.
-pub fn size_of(z: i64) -> u64
-    ensures { result ≡ nat_abs z }
-{
-    z.unsigned_abs()
-}
-
 // A number with its sign; a size that an i64 has no room for counts as the greatest that it has.
 pub fn signed(minus: bool, size: u64) -> i64
     ensures { result ≡ signed minus (min size (2 ^ 63 - 1)) }

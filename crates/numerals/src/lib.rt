@@ -24,11 +24,11 @@ pub fn is_below(n: u64, k: usize) -> bool
     19 < k || n < power_of(k)
 }
 
-// Tested by a difference, since the sum of a place and a length may pass the greatest usize.
+// The sum of a place and a length may pass the greatest usize.
 fn has_room(at: usize, many: usize, lent: usize) -> bool
     ensures { result ≡ leb (at + many) lent }
 {
-    many <= lent && at <= lent - many
+    at.checked_add(many).is_some_and(|end| end <= lent)
 }
 
 fn places_of(k: usize, n: u64) -> usize

@@ -80,7 +80,7 @@ fn has_room(bytes: usize, head: usize, posts: usize) -> bool
 }
 
 // A profile's first block: its head, then "up to 146" posts. Too short a block stays as it was.
-// Kept: nine parameters, since docs/PROMISES.md states the promise by them.
+// Kept: nine parameters, since the promise `first_after` is stated of each.
 pub fn write_first(
     number: u32,
     posts: u32,

@@ -17,13 +17,13 @@ use number::Unread;
 // A post of this number, and a cell of that one, is void.
 const VOID_POST: i64 = -32767;
 
-const VOID: i32 = i32::MIN;
+const VOID: i32 = i32::MIN; // Kept: by name in columns too, whose edit `void_written_as_zero` speaks of its own.
 
 // Posts run -32767 to 32767.
 fn in_posts(p: i64) -> bool
     ensures { result ≡ leb (nat_abs p) 32767 }
 {
-    -32767 <= p && p <= 32767
+    matches!(p, -32767..=32767)
 }
 
 fn judge_post(r: Result<i64, Unread>) -> Result<i64, Unread>
@@ -140,7 +140,7 @@ fn can_scan(bytes: usize, byte: usize, n: usize, z: u64, datum: i64, room: usize
         && byte <= 1025 - 6 * n
         && n <= room
         && z <= 100
-        && number::size_of(datum) <= 1000000
+        && datum.unsigned_abs() <= 1000000
 }
 
 // A block's posts and the rest of it. The scratch holds the heights up to the first post at fault.

@@ -1,25 +1,19 @@
 -- The verdict on a record C, by what its halves and its rest come to.
 use mathlib.Core.Bool.{cond, true, false}
 use mathlib.Core.List.{List, [], ◌∷◌, ◌++◌}
-use mathlib.Core.Path.{◌≡◌, refl, ap}
+use mathlib.Core.Path.{◌≡◌, refl}
 use Prim.Native.Nat.{ℕ}
 use borrow.Author.Tests.{eq-eqb}
 use lib.Dec.{eqb}
 use lib.ListN.{length, drop}
 use Rattle.kinds.proofs.Numbers.{not-zero}
 use Rattle.kinds.specs.Kinds.{number_of}
-use Rattle.std.specs.Prelude.{Result, Ok, Err, IsErr, IsErrAnd}
 use Rattle.laws.specs.Texts.{every}
 use Rattle.laws.proofs.Tests.{by-test}
 use Rattle.number.specs.Bytes.{is_blank}
 use Rattle.field.specs.Field.{Judged, Fault, fault, first_of, rest_fault}
 use Rattle.field.specs.declared.Broken.{Broken}
 use Rattle.profile.specs.RecordC.{half_fields, record_c}
-
--- what `?` hands on is the error that it met
-pub err-told : {A E : Type 0} (r : Result A E) (b : E) (P : E → Type 0) → ((e : E) → P e → e ≡ b) → IsErr r × IsErrAnd r P → r ≡ Err b
-err-told (Ok a) b P f q = absurd q.1
-err-told (Err e) b P f q = ap Err (f e q.1)
 
 -- one check, and what comes where it finds no fault
 abbrev pub or_else : Fault → Fault → Fault

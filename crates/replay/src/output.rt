@@ -7,6 +7,7 @@ use std::fmt::Write;
 // The open file that a program writes to.
 const STDOUT_FILENO: i32 = 1;
 
+// Kept: in replay and in sender, since no library reads or writes.
 #[derive(Drop)]
 struct Output;
 

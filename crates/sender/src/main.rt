@@ -47,7 +47,7 @@ fn send_from(template: &[u8], grid: &[i32], room: &mut [u8]) {
 }
 
 // Kept: lent as an array first, since the prover takes so long an array as a slice only behind a reference.
-fn send_room(template: &[u8], grid: &[i32], room: &mut [u8; 2098176]) {
+fn send_room(template: &[u8], grid: &[i32], room: &mut [u8; MOST]) {
     send_from(template, grid, room);
 }
 

@@ -55,6 +55,7 @@ fn stretches(h: Header, least: i64, greatest: i64, columns: u64) -> [Stretch; 27
 }
 
 // What no i64 holds is too long for every field: the largest stands for it, and leaves the field too.
+// Kept: this line stands in ledger too, over a definition of its own; `number::signed(false, n)` says it less plainly.
 fn signed(n: u64) -> i64
     ensures { result ≡ capped n }
 {

@@ -1,6 +1,6 @@
 #![tactic(auto)]
-// What the blocks of a sheet say when it is written, for the writer and for reading back. The definitions stand in specs/; here is the type of
-// the writer's answer.
+// What the blocks of a sheet say when it is written, for the writer and for reading back. The definitions stand in specs/; here is what a
+// writer refuses.
 ghost use Rattle.std.specs.Prelude.{◌≡◌};
 ghost use Rattle.written.specs.Sending.{against};
 

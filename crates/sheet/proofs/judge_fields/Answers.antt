@@ -1,6 +1,7 @@
 -- Two walks, one behind the other: a family's front, then the back.
-use Rattle.std.proofs.Common.{rules, ◌≡◌, refl, sym, ◌∙◌, ap, arith, Ok, Err, length}
-use Rattle.std.specs.Prelude.{Result, IsErr, IsErrAnd}
+use Rattle.field.proofs.OneTold.{err-told}
+use Rattle.std.proofs.Common.{rules, ◌≡◌, refl, sym, ◌∙◌, ap, arith, Err, length}
+use Rattle.std.specs.Prelude.{Result}
 use lib.ListN.{length-map}
 use Rattle.field.specs.Field.{fault}
 use Rattle.field.specs.Told.{fault_told}
@@ -10,11 +11,6 @@ use Rattle.sheet.specs.RecordA.{first_fault, front_of, back}
 use Rattle.sheet.specs.RecordASteps.{row_told}
 use Rattle.sheet.proofs.TableA.{front-inside, front-short, back-inside, stop-kind, front-fault, back-fault}
 use Rattle.sheet.proofs.judge_fields.Goals as goal
-
--- what `?` hands on is the error that it met
-err-told : {A E : Type 0} (r : Result A E) (b : E) (P : E → Type 0) → ((e : E) → P e → e ≡ b) → IsErr r × IsErrAnd r P → r ≡ Err b
-err-told (Ok a) b P f q = absurd q.1
-err-told (Err e) b P f q = ap Err (f e q.1)
 
 pub walk-requires : goal.walk-requires
 walk-requires c =

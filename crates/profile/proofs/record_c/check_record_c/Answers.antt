@@ -4,7 +4,8 @@ use Rattle.std.specs.Prelude.{Err}
 use Rattle.field.specs.Field.{fault, first_of}
 use Rattle.field.specs.Told.{fault_told}
 use Rattle.profile.specs.RecordC.{half_fields}
-use Rattle.profile.proofs.Verdicts.{err-told, c_second, c_rest, c_good}
+use Rattle.field.proofs.OneTold.{err-told}
+use Rattle.profile.proofs.Verdicts.{c_second, c_rest, c_good}
 use Rattle.profile.proofs.record_c.check_record_c.Goals as goal
 
 pub returns-in_err-check_half-2 : goal.returns-in_err-check_half-2
