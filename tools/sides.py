@@ -55,7 +55,7 @@ def public_items(root):
     return found
 
 
-def declared(root, folder, exported):
+def declared(root, folder):
     found = {}
     for path in sorted(glob.glob(root + '/crates/*/' + folder + '/**/*.antt', recursive=True)):
         if os.path.basename(path) in ('Answers.antt', 'Invariants.antt', 'Lib.antt', 'OneAnswer.antt'):
@@ -97,12 +97,6 @@ def declared(root, folder, exported):
     return found
 
 
-def table(rows):
-    for row in rows:
-        print(row)
-    print()
-
-
 def clip(text, most=1400):
     return text if len(text) <= most else text[:most] + ' ..'
 
@@ -120,7 +114,7 @@ def main():
         print('  - new: %s' % ('`' + clip(b[key]) + '`' if key in b else 'gone'))
     print()
     for folder, title in (('specs', 'Definitions'), ('proofs', 'Exported statements of proofs, worded otherwise')):
-        x, y = declared(old, folder, True), declared(new, folder, True)
+        x, y = declared(old, folder), declared(new, folder)
         print('### %s\n' % title)
         for key in sorted(set(x) & set(y)):
             if x[key][1] != y[key][1]:
