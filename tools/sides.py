@@ -65,7 +65,7 @@ def declared(root, folder):
         text = re.sub(r'(?m)(^|\s)--.*$', '', open(path).read())
         blocks, block = [], []
         for line in text.split('\n'):
-            starts = re.match(r'^(\s{0,4})(?:unfoldable |abbrev )*pub (?:unfoldable |abbrev |record |data )?(?!mod\b|use\b)\S', line)
+            starts = re.match(r'^(\s{0,8})(?:unfoldable |abbrev )*pub (?:unfoldable |abbrev |record |data )?(?!mod\b|use\b)\S', line)
             if starts:
                 blocks.append(block)
                 block = [line]
@@ -83,12 +83,12 @@ def declared(root, folder):
                 continue
             name = m.group(1)
             if folder == 'proofs':
-                kept = [block[0]]
+                # up to the proof, which begins at the statement's own depth, or behind its first line where that has an equation
+                kept, depth = [block[0]], len(block[0]) - len(block[0].lstrip())
                 for line in block[1:]:
-                    if re.match(r'^\s+(→|\()', line) and ' = ' not in line:
-                        kept.append(line)
-                    else:
+                    if len(line) - len(line.lstrip()) <= depth or re.search(r'\s=(\s|$)', kept[-1]):
                         break
+                    kept.append(line)
                 body = ' '.join(kept)
             else:
                 body = ' '.join(block)

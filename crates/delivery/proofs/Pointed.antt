@@ -11,7 +11,7 @@ use lib.IntN.{ℤ}
 use lib.ListN.{length}
 use Rattle.laws.specs.Sign.{same_z}
 use Rattle.laws.proofs.Tests.{either, by-test}
-use Rattle.field.specs.Field.{Fault}
+use Rattle.field.specs.declared.Fault.{Fault}
 use Rattle.field.specs.Rules.{Clause, Pointed}
 use Rattle.field.proofs.Points.{pointed-front, pointed-behind}
 use Rattle.sheet.specs.RecordA.{record_of}

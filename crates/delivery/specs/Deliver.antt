@@ -4,7 +4,7 @@ use Rattle.std.specs.Prelude.{List, [], ◌∷◌, ◌++◌, ℕ, ◌^◌, ◌+�
 use Rattle.std.proofs.lemmas.List.Edits.{sets}
 use Rattle.laws.specs.Sign.{same_z}
 use Rattle.lattice.specs.Lattice.{lattice_of, place_of, place_number}
-use Rattle.field.specs.Field.{Fault}
+use Rattle.field.specs.declared.Fault.{Fault}
 use Rattle.frame.specs.declared.Header.{Header}
 use Rattle.frame.specs.Frame.{rows_of, z_of, columns_of, west, east, south, north, cells_of}
 use Rattle.sheet.specs.RecordA.{Checked}

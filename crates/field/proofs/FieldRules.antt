@@ -15,14 +15,14 @@ use Rattle.laws.specs.Digits.{short}
 use Rattle.laws.specs.Sign.{◌and◌}
 use Rattle.laws.proofs.Tests.{either, clash, and_first, and_second, by-test}
 use Rattle.laws.proofs.Tables.{all}
-use Rattle.number.specs.Reading.{Reading}
+use Rattle.number.specs.declared.Reading.{Reading}
 use Rattle.number.specs.Integer.{integer, integer_form, unsigned_part, read, refused}
 use Rattle.number.specs.Real.{billionths, real, real_form}
 use Rattle.number.proofs.Fields.{within-good}
 use Rattle.number.proofs.Grammar.{Fits, integer-pointed, real-pointed}
 use Rattle.field.specs.Field.{fault, place_in, in_limits, ranged, stretch, rest_fault, Judged, first_of, fault_or}
-use Rattle.field.specs.Field.{Fault}
-use Rattle.field.specs.Field.{Limits}
+use Rattle.field.specs.declared.Fault.{Fault}
+use Rattle.field.specs.declared.Limits.{Limits}
 use Rattle.field.specs.Rules.{Clause, clause, form_clause, spared, integer_forms, real_forms, integer_by, integer_in, real_rules, real_by, blank_rules, KeepsAll, FirstBroken}
 use Rattle.field.proofs.Ranges.{HasKind}
 use Rattle.field.proofs.Rules.{broken_or, first-append, nonzero, fault-first, fault-exactly}

@@ -1,12 +1,16 @@
 -- What the code answers is one to one with what the definitions say of it: limits, and faults of checks. Kinds carry it: no two have one number, and
 -- none has the number 0.
 use Rattle.std.proofs.Common.{◌≡◌, refl, sym, ◌∙◌, ap}
-use Rattle.std.specs.Prelude.{Result, Ok, Err, IsErr, IsErrAnd, eqb}
+use Rattle.std.specs.Prelude.{ℕ, ℤ, Result, Ok, Err, IsErr, IsErrAnd, eqb}
 use Rattle.kinds.proofs.Numbers.{one-number, not-zero}
 use Rattle.kinds.specs.Kinds.{number_of}
-use Rattle.laws.proofs.Tests.{clash}
-use Rattle.field.specs.Field.{Limits, Fault, fault}
-use Rattle.field.specs.Told.{limits_told, fault_told}
+use Rattle.laws.proofs.Tests.{clash, by-test}
+use Rattle.number.specs.Reading.{said}
+use Rattle.number.specs.declared.Unread.{Unread}
+use Rattle.field.specs.Field.{fault, fault_or, ranged, in_limits}
+use Rattle.field.specs.declared.Limits.{Limits}
+use Rattle.field.specs.declared.Fault.{Fault}
+use Rattle.field.specs.Told.{limits_told, fault_told, held, placed}
 use Rattle.field.specs.declared.Bounds.{Bounds}
 use Rattle.field.specs.declared.Broken.{Broken}
 
@@ -38,3 +42,13 @@ checked-one a b e = told-one a b (λ x y p q. refl) e
 pub err-told : {A E : Type 0} (r : Result A E) (b : E) (P : E → Type 0) → ((e : E) → P e → e ≡ b) → IsErr r × IsErrAnd r P → r ≡ Err b
 err-told (Ok a) b P f q = absurd q.1
 err-told (Err e) b P f q = ap Err (f e q.1)
+
+-- a number held to its bounds says what the definition's limits let pass
+pub held-ranged : (b : Bounds) (r : Result ℤ Unread) → said (held b r) ≡ ranged (limits_told b) (said r)
+held-ranged b (Ok z) = by-test (in_limits (limits_told b) z) (λ e. rw e) (λ e. rw e)
+held-ranged b (Err u) = rw (not-zero u.kind)
+
+-- a reading placed in its block comes to the fault of that field alone
+pub placed-fault : (byte : ℕ) (r : Result ℤ Unread) → fault_told (placed byte r) ≡ fault_or (said r) byte (fault 0 0)
+placed-fault byte (Ok z) = refl
+placed-fault byte (Err u) = rw (not-zero u.kind)

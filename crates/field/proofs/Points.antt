@@ -11,13 +11,13 @@ use lib.Dec.{eqb}
 use Rattle.laws.specs.Lists.{joined}
 use Rattle.laws.proofs.Starts.{one-very-byte}
 use Rattle.laws.proofs.Tests.{by-test}
-use Rattle.number.specs.Reading.{Reading}
+use Rattle.number.specs.declared.Reading.{Reading}
 use Rattle.number.specs.Integer.{integer}
 use Rattle.number.specs.Real.{real}
 use Rattle.number.proofs.Grammar.{integer-points, real-points}
 use Rattle.field.specs.Field.{fault, stretch}
-use Rattle.field.specs.Field.{Fault}
-use Rattle.field.specs.Field.{Limits}
+use Rattle.field.specs.declared.Fault.{Fault}
+use Rattle.field.specs.declared.Limits.{Limits}
 use Rattle.field.specs.Rules.{Clause, form_clause, spared, integer_forms, integer_by, real_rules, real_by, KeepsAll, FirstBroken, PointsAt, Pointed}
 use Rattle.field.specs.Rules.KeepsAll.{none as kept-none, more}
 use Rattle.field.specs.Rules.FirstBroken.{here, later}

@@ -10,9 +10,9 @@ use Prim.Native.Nat.{ℕ, ◌≤◌}
 use Rattle.laws.specs.Family.{is_canadian}
 use Rattle.laws.specs.Sign.{not_negative}
 use Rattle.laws.proofs.Tests.{clash, by-test, either, split, and_first}
-use Rattle.number.specs.Reading.{Reading}
+use Rattle.number.specs.declared.Reading.{Reading}
 use Rattle.field.specs.Field.{limits, posts_limits, in_limits, in_range, ranged}
-use Rattle.field.specs.Field.{Limits}
+use Rattle.field.specs.declared.Limits.{Limits}
 
 pub below-limits : (l : Limits) (z : ℤ) → lt_z z (pos 0) ≡ true → in_limits l z ≡ false
 below-limits l (pos n) t = absurd (omega (arith, ltb-true n 0 t))

@@ -8,7 +8,7 @@ use borrow.Author.Tests.{eqb-false, not-true}
 use lib.Dec.{eqb}
 use Rattle.laws.proofs.Tests.{clash, by-test, and_first, and_second}
 use Rattle.laws.proofs.Tables.{all}
-use Rattle.field.specs.Field.{Fault}
+use Rattle.field.specs.declared.Fault.{Fault}
 use Rattle.field.specs.Field.{fault}
 use Rattle.field.specs.Rules.{Clause, KeepsAll, FirstBroken}
 use Rattle.field.specs.Rules.KeepsAll.{none, more}

@@ -5,8 +5,10 @@ use Rattle.laws.specs.Family.{is_canadian}
 use Rattle.laws.specs.Texts.{every}
 use Rattle.number.specs.Integer.{integer, refused}
 use Rattle.number.specs.Real.{real}
-use Rattle.number.specs.Reading.{Reading}
+use Rattle.number.specs.declared.Reading.{Reading}
 use Rattle.number.specs.Bytes.{is_blank}
+use Rattle.field.specs.declared.Limits.{Limits}
+use Rattle.field.specs.declared.Fault.{Fault}
 
 -- "bytes 32-126, no lower case"
 abbrev pub is_word : ℕ → Bool
@@ -25,13 +27,6 @@ whole_at first block = not_negative (integer (stretch first 6 block)).value
 
 abbrev pub real_at : ℕ → List ℕ → ℤ
 real_at first block = (real (stretch first 24 block)).value
-
--- least, greatest and step of a number, with the kind of its refusal
-pub record Limits : Type 0 where
-  pub least : ℕ
-  pub greatest : ℕ
-  pub step : ℕ
-  pub kind : ℕ
 
 abbrev pub limits : ℕ → ℕ → ℕ → ℕ → Limits
 limits least greatest step kind = record { least = least; greatest = greatest; step = step; kind = kind }
@@ -52,10 +47,6 @@ abbrev pub ranged : Limits → Reading → Reading
 ranged l r = cond (eqb r.kind 0) (cond (in_limits l r.value) r (refused l.kind)) r
 
 -- "first fault by byte, a field, or a whole text .. stretch, standing at its first byte"; kind 0 where there is none
-pub record Fault : Type 0 where
-  pub kind : ℕ
-  pub byte : ℕ
-
 abbrev pub fault : ℕ → ℕ → Fault
 fault kind byte = record { kind = kind; byte = byte }
 

@@ -3,12 +3,12 @@
 use Rattle.std.specs.Prelude.{Bool, not, true, List, [], ◌∷◌, ◌++◌, ℕ, ◌+◌, ◌-◌, eqb, drop, length, ◌≡◌}
 use Rattle.laws.specs.Starts.{VeryByte}
 use Rattle.laws.specs.Texts.{every}
-use Rattle.number.specs.Reading.{Reading}
+use Rattle.number.specs.declared.Reading.{Reading}
 use Rattle.number.specs.Grammar.{SomeInteger, SomeReal}
 use Rattle.number.specs.Integer.{integer}
 use Rattle.number.specs.Real.{real}
 use Rattle.number.specs.Bytes.{is_blank}
-use Rattle.field.specs.Field.{Limits}
+use Rattle.field.specs.declared.Limits.{Limits}
 use Rattle.field.specs.Field.{in_limits, stretch, is_word, is_text}
 
 -- a rule: the byte of its refusal, which for a rule of form goes by the block; its kind; and whether a block keeps it

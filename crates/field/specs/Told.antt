@@ -4,7 +4,9 @@ use Rattle.kinds.specs.declared.Kind.{Kind}
 use Rattle.kinds.specs.Kinds.{number_of}
 use Rattle.number.specs.declared.Unread.{Unread}
 use Rattle.number.specs.Reading.{unread}
-use Rattle.field.specs.Field.{Limits, limits, in_limits, Fault, fault}
+use Rattle.field.specs.Field.{limits, in_limits, fault}
+use Rattle.field.specs.declared.Limits.{Limits}
+use Rattle.field.specs.declared.Fault.{Fault}
 use Rattle.field.specs.declared.Bounds.{Bounds}
 use Rattle.field.specs.declared.Broken.{Broken}
 

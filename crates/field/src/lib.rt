@@ -1,16 +1,16 @@
 #![tactic(auto)]
 // A field of a block: its bytes, its limits, and the one place where a reading at a byte becomes a fault.
-ghost use Rattle.std.specs.Prelude.{◌≡◌, take, drop, IfOk};
+ghost use Rattle.std.specs.Prelude.{◌≡◌, ◌+◌, ◌-◌, take, drop, IfOk};
 ghost use Rattle.laws.specs.Texts.{every};
 ghost use Rattle.number.specs.Bytes.{is_blank};
 ghost use Rattle.number.specs.Integer.{integer};
 ghost use Rattle.number.specs.Reading.{said};
 ghost use Rattle.number.specs.Real.{real};
-ghost use Rattle.field.specs.Field.{is_word, is_text, stretch, whole_at, posts_limits, in_range, in_limits, ranged, fault, fault_or};
+ghost use Rattle.field.specs.Field.{is_word, is_text, stretch, whole_at, limits, posts_limits, in_range, in_limits, ranged, fault, fault_or};
 ghost use Rattle.field.specs.Told.{limits_told, bounded, held, broken, placed, fault_told};
 
 use kinds::Kind;
-use number::Unread;
+use number::{Reading, Unread};
 
 // A broken rule: its kind and its byte in the block, counted from 1.
 #[derive(Clone, Copy)]
@@ -36,6 +36,45 @@ pub struct Bounds {
     pub kind: Kind,
 }
 
+// The same with a kind by its number. Kept, with `Fault` and what takes them: the promises are of any number (`limits`, `ranged`, `fault_or`).
+#[derive(Clone, Copy)]
+pub struct Limits {
+    pub least: u64,
+    pub greatest: u64,
+    pub step: u64,
+    pub kind: u32,
+}
+
+// A broken rule by the number of its kind, and its byte. Kind 0: none is broken.
+#[derive(Clone, Copy)]
+pub struct Fault {
+    pub kind: u32,
+    pub byte: u32,
+}
+
+pub fn limits_of(least: u64, greatest: u64, step: u64, kind: u32) -> Limits
+    ensures { result ≡ limits least greatest step kind }
+{
+    Limits {
+        least,
+        greatest,
+        step,
+        kind,
+    }
+}
+
+pub fn no_fault() -> Fault
+    ensures { result ≡ fault 0 0 }
+{
+    fault_of(0, 0)
+}
+
+pub fn fault_of(kind: u32, byte: u32) -> Fault
+    ensures { result ≡ fault kind byte }
+{
+    Fault { kind, byte }
+}
+
 pub fn bounds_of(least: u64, greatest: u64, step: u64, kind: Kind) -> Bounds
     ensures { result ≡ bounded least greatest step kind }
 {
@@ -57,33 +96,70 @@ pub fn posts_limits(family: u64) -> Bounds
     bounds_of(1, 2048, 1, Kind::Range)
 }
 
-pub fn in_range(b: Bounds, v: u64) -> bool
-    ensures { result ≡ in_range (limits_told b) v }
+impl Bounds {
+    // The same limits, with the kind by its number.
+    pub fn limits(self) -> Limits
+        ensures { result ≡ limits_told self }
+    {
+        limits_of(self.least, self.greatest, self.step, self.kind.number())
+    }
+
+    // "Inside one field the kinds of its reading come before its own rule."
+    pub fn hold(self, r: Result<i64, Unread>) -> Result<i64, Unread>
+        ensures { result ≡ held self r }
+    {
+        let z = r?;
+        if in_limits(self.limits(), z) {
+            return Ok(z);
+        }
+        Err(Unread::of(self.kind))
+    }
+
+    // A number that was read, in its bounds.
+    pub fn check(self, r: Result<i64, Unread>, byte: u16) -> Result<i64, Broken>
+        ensures { result ≡ placed byte (held self r) }
+    {
+        placed(byte, self.hold(r))
+    }
+
+    pub fn check_at(self, block: &[u8], byte: u16) -> Result<i64, Broken>
+        ensures fault { fault_told result ≡ fault_or (ranged (limits_told self) (integer (stretch byte 6 block.now))) byte (fault 0 0) }
+        ensures value { IfOk result (λ z. (integer (stretch byte 6 block.now)).value ≡ z) }
+    {
+        self.check(integer_at(block, byte), byte)
+    }
+}
+
+pub fn in_range(l: Limits, v: u64) -> bool
+    ensures { result ≡ in_range l v }
 {
-    if v < b.least || b.greatest < v {
+    if v < l.least || l.greatest < v {
         return false;
     }
-    if b.step == 0 {
+    if l.step == 0 {
         return v == 0;
     }
-    v % b.step == 0
+    v % l.step == 0
 }
 
-fn in_limits(b: Bounds, z: i64) -> bool
-    ensures { result ≡ in_limits (limits_told b) z }
+fn in_limits(l: Limits, z: i64) -> bool
+    ensures { result ≡ in_limits l z }
 {
-    0 <= z && in_range(b, z as u64)
+    0 <= z && in_range(l, z as u64)
 }
 
-// "Inside one field the kinds of its reading come before its own rule."
-pub fn read_ranged(b: Bounds, r: Result<i64, Unread>) -> Result<i64, Unread>
-    ensures { result ≡ held b r }
+// As `Bounds::hold`, of a reading and limits by their numbers, whatever these are; so below `fault_or`, `judge` and `judge_at`.
+pub fn read_ranged(l: Limits, r: Reading) -> Reading
+    ensures { result ≡ ranged l r }
 {
-    let z = r?;
-    if in_limits(b, z) {
-        return Ok(z);
+    if r.kind != 0 || in_limits(l, r.value) {
+        return r;
     }
-    Err(Unread::of(b.kind))
+    Reading {
+        kind: l.kind,
+        value: 0,
+        byte: 0,
+    }
 }
 
 fn is_text(c: u8) -> bool
@@ -151,10 +227,26 @@ pub fn stretch_of(block: &[u8], first: usize, width: usize) -> &[u8]
 
 // Where a reading is refused: at the field's first byte, or at the very byte of wrong form. A block's bytes are counted in 16 bits here, so that
 // the sum fits whatever is asked.
+fn place_in(first: u16, k: u8) -> u32
+    ensures { result ≡ first + (k - 1) }
+{
+    u32::from(first) + u32::from(k.saturating_sub(1))
+}
+
 pub fn placed(byte: u16, r: Result<i64, Unread>) -> Result<i64, Broken>
     ensures { result ≡ placed byte r }
 {
-    r.map_err(|u| Broken::at(u.kind, byte as u32 + u.byte.saturating_sub(1) as u32))
+    r.map_err(|u| Broken::at(u.kind, place_in(byte, u.byte)))
+}
+
+// The fault of a field, by its first byte, or the first of those behind it.
+pub fn fault_or(r: Reading, byte: u16, rest: Fault) -> Fault
+    ensures { result ≡ fault_or r byte rest }
+{
+    if r.kind == 0 {
+        return rest;
+    }
+    fault_of(r.kind, place_in(byte, r.byte))
 }
 
 pub fn integer_at(block: &[u8], byte: u16) -> Result<i64, Unread>
@@ -177,15 +269,14 @@ pub fn real_at(block: &[u8], byte: u16) -> Result<i64, Unread>
 }
 
 // An integer that was read, in its limits.
-pub fn judge(b: Bounds, r: Result<i64, Unread>, byte: u16) -> Result<i64, Broken>
-    ensures { result ≡ placed byte (held b r) }
+pub fn judge(l: Limits, r: Reading, byte: u16, rest: Fault) -> Fault
+    ensures { result ≡ fault_or (ranged l r) byte rest }
 {
-    placed(byte, read_ranged(b, r))
+    fault_or(read_ranged(l, r), byte, rest)
 }
 
-pub fn judge_at(b: Bounds, block: &[u8], byte: u16) -> Result<i64, Broken>
-    ensures fault { fault_told result ≡ fault_or (ranged (limits_told b) (integer (stretch byte 6 block.now))) byte (fault 0 0) }
-    ensures value { IfOk result (λ z. (integer (stretch byte 6 block.now)).value ≡ z) }
+pub fn judge_at(l: Limits, block: &[u8], byte: u16, rest: Fault) -> Fault
+    ensures { result ≡ fault_or (ranged l (integer (stretch byte 6 block.now))) byte rest }
 {
-    judge(b, integer_at(block, byte), byte)
+    judge(l, Reading::told(integer_at(block, byte)), byte, rest)
 }

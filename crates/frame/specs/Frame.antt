@@ -5,7 +5,7 @@ use Rattle.std.specs.Int.Signed.{lt_z}
 use Rattle.laws.specs.Family.{is_canadian}
 use Rattle.laws.specs.Sign.{◌and◌, lesser, greater}
 use Rattle.lattice.specs.Lattice.{lattice_of, place_of}
-use Rattle.field.specs.Field.{Fault}
+use Rattle.field.specs.declared.Fault.{Fault}
 use Rattle.field.specs.Field.{fault}
 use Rattle.frame.specs.declared.Header.{Header}
 

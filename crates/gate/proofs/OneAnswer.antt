@@ -5,6 +5,7 @@ use Rattle.gate.proofs.judge_first.Reads as judge-first·told
 use Rattle.gate.proofs.order.Reads as order·told
 use Rattle.gate.proofs.verdict.held.Reads as held·told
 use Rattle.gate.proofs.verdict.refused.Reads as refused·told
+use Rattle.gate.proofs.verdict.refused_for.Reads as refused-for·told
 use Rattle.gate.proofs.verdict.taken.Reads as taken·told
 
 pub gate : OneResult gate·told.Learnt
@@ -21,6 +22,9 @@ held κs a z z' e e' p q = one_answer p q
 
 pub refused : OneResult refused·told.Learnt
 refused κs a z z' e e' p q = one_answer p q
+
+pub refused-for : OneResult refused-for·told.Learnt
+refused-for κs a z z' e e' p q = one_answer p q
 
 pub taken : OneResult taken·told.Learnt
 taken κs a z z' e e' p q = one_answer p q

@@ -66,7 +66,7 @@ pub fn judge_first(s: Session, block: &[u8], cells: usize) -> Judged
 {
     match sheet::check_family(s.family, block) {
         Ok(h) if frame::has_room(h, cells as u64) => begin(s.family, h),
-        Ok(_) => verdict::refused(s, Kind::Room, 0, 0),
-        Err(b) => verdict::refused(s, b.kind, 0, b.byte),
+        Ok(_) => verdict::refused_for(s, Kind::Room, 0, 0),
+        Err(b) => verdict::refused_for(s, b.kind, 0, b.byte),
     }
 }

@@ -40,16 +40,23 @@ pub fn held(s: Session) -> Judged
     }
 }
 
-pub fn refused(s: Session, kind: Kind, block: u64, byte: u32) -> Judged
-    ensures { result ≡ judged_of s (wrong (number_of kind) block byte) }
+// Whatever number a caller names as the kind.
+pub fn refused(s: Session, kind: u32, block: u64, byte: u32) -> Judged
+    ensures { result ≡ judged_of s (wrong kind block byte) }
 {
     Judged {
-        answer: Answer::Refused(kind.number(), block, byte),
+        answer: Answer::Refused(kind, block, byte),
         session: s,
         voids: 0,
         at: 0,
         heights: 0,
     }
+}
+
+pub fn refused_for(s: Session, kind: Kind, block: u64, byte: u32) -> Judged
+    ensures { result ≡ judged_of s (wrong (number_of kind) block byte) }
+{
+    refused(s, kind.number(), block, byte)
 }
 
 // A block taken: the session after it, cells void from the first on, and heights from a cell on.

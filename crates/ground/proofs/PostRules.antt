@@ -11,7 +11,7 @@ use native.Mathlib.Omega.{arith}
 use Rattle.laws.proofs.Tests.{by-test}
 use Rattle.laws.proofs.Tables.{all}
 use Rattle.number.specs.Integer.{integer}
-use Rattle.field.specs.Field.{Fault}
+use Rattle.field.specs.declared.Fault.{Fault}
 use Rattle.field.specs.Field.{fault, fault_or, stretch, rest_fault}
 use Rattle.field.specs.Rules.{Clause, KeepsAll, FirstBroken, Pointed, integer_forms, blank_rules}
 use Rattle.field.proofs.Rules.{broken_or, named, first-append, fault-first, fault-exactly}

@@ -9,7 +9,7 @@ use lib.Dec.{leb, eqb}
 use mathlib.Core.List.{List}
 use lib.ListN.{length, get_or}
 use native.Mathlib.Nat.{le_of_suc-le-suc, not-suc-le-zero}
-use Rattle.number.specs.Reading.{Reading}
+use Rattle.number.specs.declared.Reading.{Reading}
 use Rattle.number.specs.Integer.{integer}
 use Rattle.field.specs.Field.{stretch, fault, fault_or}
 use Rattle.ground.specs.Posts.{judge_post, posts_fault, posts_of, heights, tally_all}

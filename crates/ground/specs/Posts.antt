@@ -1,10 +1,10 @@
 -- Document 01, "Record B": posts, the heights they stand for, and what heights come to.
 use Rattle.std.specs.Prelude.{ℤ, negsuc, nat_abs, pos, ◌+ℤ◌, ◌*ℤ◌, cond, leb, eqb, List, [], ◌∷◌, map, ℕ, zero, suc, ◌+◌, ◌-◌, ◌/◌, ◌≤◌, ◌*◌}
 use Rattle.laws.specs.Sign.{same_z, lesser, greater}
-use Rattle.number.specs.Reading.{Reading}
+use Rattle.number.specs.declared.Reading.{Reading}
 use Rattle.number.specs.Integer.{refused, integer}
 use Rattle.field.specs.Field.{fault_or, stretch, fault, rest_fault}
-use Rattle.field.specs.Field.{Fault}
+use Rattle.field.specs.declared.Fault.{Fault}
 use Rattle.ground.specs.declared.Tally.{Tally}
 
 -- "The value -2,147,483,648 marks a void cell."

@@ -11,7 +11,7 @@ use Rattle.laws.specs.Family.{is_canadian}
 use Rattle.laws.proofs.Tests.{split, clash, by-test}
 use Rattle.laws.proofs.Tables.{all}
 use Rattle.field.specs.Field.{in_range, limits, fault}
-use Rattle.field.specs.Field.{Limits}
+use Rattle.field.specs.declared.Limits.{Limits}
 use Rattle.frame.specs.Frame.{corners_in_order, columns_of, rows_of, whole_fault, one_to2048, pairs, listed, canadian_fault}
 use Rattle.frame.specs.declared.Header.{Header}
 use Rattle.heading.specs.Heading.{Name, limits_of, height_limits, billion, zone_limits, ground_limits, reals_obey, fields_obey, header_obeys, canadian_fields, family_obeys}

@@ -7,7 +7,7 @@ use borrow.Author.Tests.{leb-true}
 use lib.Dec.{leb, eqb}
 use Rattle.laws.proofs.Tests.{and_first, and_second}
 use Rattle.field.specs.Field.{in_range, limits}
-use Rattle.field.specs.Field.{Limits}
+use Rattle.field.specs.declared.Limits.{Limits}
 use Rattle.frame.specs.declared.Header.{Header}
 use Rattle.heading.specs.Heading.{header_obeys}
 use Rattle.heading.proofs.HeadingFacts.{Framed, family-facts}

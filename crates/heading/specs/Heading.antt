@@ -1,14 +1,16 @@
 -- Document 01, "Record A": its limits by name, the header that a block says, and what a header must obey.
-use Rattle.std.specs.Prelude.{Bool, cond, List, ℕ, ◌+◌, ◌*◌, ◌-◌, ◌^◌, ltb, eqb, ℤ, pos, nat_abs}
+use Rattle.std.specs.Prelude.{Bool, cond, List, [], ◌∷◌, map, ℕ, ◌+◌, ◌*◌, ◌-◌, ◌^◌, ltb, eqb, ℤ, pos, nat_abs, get_or}
 use Rattle.laws.specs.Digits.{short}
 use Rattle.laws.specs.Family.{is_canadian}
 use Rattle.laws.specs.Sign.{is_zero, not_negative, ◌and◌}
 use Rattle.number.specs.Real.{real}
 use Rattle.field.specs.Field.{stretch, whole_at, real_at, limits, in_range}
-use Rattle.field.specs.Field.{Limits}
+use Rattle.field.specs.declared.Limits.{Limits}
 use Rattle.frame.specs.Frame.{whole_fault, canadian_fault}
 use Rattle.frame.specs.declared.Corner.{Corner}
 use Rattle.frame.specs.declared.Header.{Header}
+use Rattle.heading.specs.declared.Name.{Name as declared-Name}
+use Rattle.heading.specs.declared.Name.TheVariants.{Level, Pattern, System, Zone, Ground, Vertical, Sides, Angle, Accuracy, Spacing, Height, Rank, Profiles, Minutes, Seconds}
 
 -- ---- the limits of record A's numbers, each once: least, greatest, step, and the kind of the refusal; reals in billionths
 
@@ -82,6 +84,36 @@ canadian_limits seconds s v = limits_of seconds s v
 
 abbrev pub family_limits : ℕ → Name → ℕ → ℕ → Limits
 family_limits family name s v = cond (is_canadian family) (canadian_limits name s v) (limits_of name s v)
+
+-- the name that the code has
+abbrev pub named : declared-Name → Name
+named Level = level
+named Pattern = pattern
+named System = system
+named Zone = zone
+named Ground = ground
+named Vertical = vertical
+named Sides = sides
+named Angle = angle
+named Accuracy = accuracy
+named Spacing = spacing
+named Height = height
+named Rank = rank
+named Profiles = profiles
+named Minutes = minutes
+named Seconds = seconds
+
+-- by its number, from 0, in this order; what is past them has limits that nothing keeps but 0
+abbrev pub names : List Name
+names =
+    level ∷ pattern ∷ system ∷ zone ∷ ground ∷ vertical ∷ sides ∷ angle ∷ accuracy ∷ spacing ∷ height ∷ rank ∷ profiles
+    ∷ minutes ∷ seconds ∷ []
+
+abbrev pub limits_at : ℕ → ℕ → ℕ → Limits
+limits_at n s v = get_or (map (λ name. limits_of name s v) names) n (limits 0 0 0 0)
+
+abbrev pub family_limits_at : ℕ → ℕ → ℕ → ℕ → Limits
+family_limits_at family n s v = get_or (map (λ name. family_limits family name s v) names) n (limits 0 0 0 0)
 
 -- ---- the header of a block
 

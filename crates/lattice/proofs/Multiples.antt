@@ -29,7 +29,7 @@ module _ (s : ℕ) (p : 0 < s) where
   pub upward-zero : upward 0 s ≡ 0
   upward-zero = omega (arith, upward-small 0)
 
-  upward-even : (v : ℕ) → v % s ≡ 0 → upward v s ≡ v / s
+  pub upward-even : (v : ℕ) → v % s ≡ 0 → upward v s ≡ v / s
   upward-even v e =
       let le : upward v s ≤ v / s = upward-least v (v / s) (omega (arith, div-add-mod' v s)) in
       let ge : v / s ≤ upward v s = (le-div_iff_mul-le p).1 (omega (arith, div-mul-le_self v s)) in

@@ -1,3 +1,4 @@
 pub mod Loops
 pub mod Fed
+pub mod Numbered
 pub mod OneAnswer

@@ -6,10 +6,14 @@ use mir.Syntax.{Dict}
 use Rattle.listing.specs.declared.Source.{Ghosts}
 use Rattle.listing.specs.Turns.{OneCall}
 use Rattle.listing.proofs.Fed.{one-place}
+use Rattle.listing.proofs.Turn.numbered.Reads as numbered·told
 use Rattle.listing.proofs.begin.Reads as begin·told
 use Rattle.listing.proofs.list.Reads as list·told
 use Rattle.listing.proofs.put_last.Reads as put-last·told
 use Rattle.listing.proofs.take_bytes.Reads as take-bytes·told
+
+pub numbered : OneResult numbered·told.Learnt
+numbered κs a z z' e e' p q = one_answer p q
 
 pub begin : OneResult begin·told.Learnt
 begin κs a z z' e e' p q = one_answer p q

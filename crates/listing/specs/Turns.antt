@@ -15,6 +15,10 @@ use Rattle.listing.specs.declared.Turn.{Turn}
 abbrev pub turn : Session → Stage → Turn
 turn s stage = record { session = s; stage = stage }
 
+-- a turn by its numbers: at stage 0 more may follow, and at 2 a block was refused, for this kind at this block and byte
+abbrev pub turn_numbered : Session → ℕ → ℕ → ℕ → ℕ → Turn
+turn_numbered s stage kind block byte = turn s (cond (eqb stage 2) (Stopped kind block byte) (cond (eqb stage 0) More Ended))
+
 abbrev pub is_more : Stage → Bool
 is_more More = true
 is_more Ended = false

@@ -5,7 +5,7 @@ ghost use Rattle.std.specs.Prelude.{ℕ, List, ◌≡◌, replicate};
 ghost use Rattle.lines.specs.Lines.{Given};
 ghost use Rattle.session.specs.Session.{fresh};
 ghost use Rattle.listing.specs.declared.Stage.TheVariants.{More};
-ghost use Rattle.listing.specs.Turns.{turn, turn_after, last_text, ComesTo, stepped, ran, with_rest, taken_of, Listed, Fed};
+ghost use Rattle.listing.specs.Turns.{turn, turn_numbered, turn_after, last_text, ComesTo, stepped, ran, with_rest, taken_of, Listed, Fed};
 
 use delivery::Answer;
 use session::Session;
@@ -18,11 +18,28 @@ pub enum Stage {
     Refused { kind: u32, block: u64, byte: u32 },
 }
 
+// The number of the first of them.
+pub const MORE: u8 = 0;
+
 // Where a listing stands.
 #[derive(Clone, Copy)]
 pub struct Turn {
     pub session: Session,
     pub stage: Stage,
+}
+
+impl Turn {
+    // Where a listing stands by its numbers, whatever these are: at 0 more may follow, and at 2 a block was refused.
+    pub fn numbered(session: Session, stage: u8, kind: u32, block: u64, byte: u32) -> Turn
+        ensures { result ≡ turn_numbered session stage kind block byte }
+    {
+        let stage = match stage {
+            MORE => Stage::More,
+            2 => Stage::Refused { kind, block, byte },
+            _ => Stage::Ended,
+        };
+        Turn { session, stage }
+    }
 }
 
 // What brings the bytes of a sheet, however a pipe cuts them up.

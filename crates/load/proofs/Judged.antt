@@ -10,7 +10,7 @@ use borrow.Author.Tests.{eq-eqb, ne_eqb, ltb-false, le-leb}
 use lib.Dec.{eqb}
 use Rattle.laws.proofs.Tests.{by-test, and_both}
 use Rattle.field.specs.Field.{fault}
-use Rattle.field.specs.Field.{Fault}
+use Rattle.field.specs.declared.Fault.{Fault}
 use Rattle.frame.specs.Frame.{z_of, cells_of}
 use Rattle.profile.specs.declared.record_b.Head.{Head}
 use Rattle.sheet.specs.RecordA.{Checked}

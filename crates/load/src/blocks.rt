@@ -29,7 +29,7 @@ fn further_block(s: Session, number: u64, block: &[u8], scratch: &mut [i32]) -> 
             let sum = posts::sum_filled(scratch, n as usize);
             steps::fill_step(s, number, s.column, p, n, tally, sum)
         }
-        Err(b) => verdict::refused(s, b.kind, number, b.byte),
+        Err(b) => verdict::refused_for(s, b.kind, number, b.byte),
     }
 }
 
@@ -40,11 +40,11 @@ fn place_profile(s: Session, number: u64, head: Head, n: u64, u: Tally, sum: i64
 {
     let c = frame::column_of(s.header, head.x);
     if !rules::column_fits(s, c) {
-        return verdict::refused(s, Kind::Place, number, 25);
+        return verdict::refused_for(s, Kind::Place, number, 25);
     }
     let w = frame::row_of(s.header, head.y);
     if !rules::row_fits(s, head.posts, w) {
-        return verdict::refused(s, Kind::Place, number, 49);
+        return verdict::refused_for(s, Kind::Place, number, 49);
     }
     let column = rules::first_column(s, c);
     let p = rules::open_profile(head, w);
@@ -63,7 +63,7 @@ fn open_block(s: Session, number: u64, block: &[u8], head: Head, scratch: &mut [
             let sum = posts::sum_filled(scratch, n as usize);
             place_profile(s, number, head, n, tally, sum)
         }
-        Err(b) => verdict::refused(s, b.kind, number, b.byte),
+        Err(b) => verdict::refused_for(s, b.kind, number, b.byte),
     }
 }
 
@@ -74,7 +74,7 @@ fn start_profile(s: Session, number: u64, block: &[u8], scratch: &mut [i32]) -> 
 {
     match profile::record_b::read_head(s.family, s.closed + 1, block) {
         Ok(head) => open_block(s, number, block, head, scratch),
-        Err(b) => verdict::refused(s, b.kind, number, b.byte),
+        Err(b) => verdict::refused_for(s, b.kind, number, b.byte),
     }
 }
 
@@ -85,7 +85,7 @@ fn finish_sheet(s: Session, number: u64, block: &[u8]) -> Judged
 {
     match profile::record_c::check_record_c(block) {
         Ok(()) => verdict::taken(progress::finish_session(s), 0, 0, 0),
-        Err(b) => verdict::refused(s, b.kind, number, b.byte),
+        Err(b) => verdict::refused_for(s, b.kind, number, b.byte),
     }
 }
 

@@ -29,7 +29,7 @@ fn judge(
     ensures { Judging s (verdict_of s number block.now (room cells)) cells scratch.new result }
 {
     match g {
-        Gate::Stop(kind) => gate::verdict::refused(s, kind, number, 0),
+        Gate::Stop(kind) => gate::verdict::refused_for(s, kind, number, 0),
         Gate::Again => gate::verdict::held(s),
         Gate::Begin => gate::judge_first(s, block, cells),
         Gate::Later => blocks::later_block(s, number, block, scratch),

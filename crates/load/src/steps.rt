@@ -39,6 +39,6 @@ pub(crate) fn fill_step(
     }
     match rules::close_fault(number - session::open_blocks(s), after) {
         Ok(()) => verdict::taken(progress::close_session(after), 0, at, n),
-        Err(m) => verdict::refused(s, Kind::Extreme, m.block, m.byte),
+        Err(m) => verdict::refused_for(s, Kind::Extreme, m.block, m.byte),
     }
 }

@@ -16,14 +16,14 @@ use Rattle.laws.specs.Family.{is_canadian}
 use Rattle.laws.specs.Sign.{same_z, not_negative, ◌and◌}
 use Rattle.laws.proofs.SameNumbers.{same_z-is, same_z-fails}
 use Rattle.laws.proofs.Tests.{by-test, clash, split}
-use Rattle.number.specs.Reading.{Reading}
+use Rattle.number.specs.declared.Reading.{Reading}
 use Rattle.number.specs.Integer.{integer}
 use Rattle.number.specs.Real.{real}
 use Rattle.number.specs.Grammar.{IntegerMeans, RealMeans}
 use Rattle.number.proofs.Grammar.{integer-means, integer-pointed, real-means, real-pointed}
 use Rattle.field.proofs.Ranges.{posts-kind}
 use Rattle.field.specs.Field.{real_at, stretch, rest_fault, limits, posts_limits, in_range, in_limits, ranged, whole_at}
-use Rattle.field.specs.Field.{Limits}
+use Rattle.field.specs.declared.Limits.{Limits}
 use Rattle.corner.specs.Corner.{arc_seconds}
 use Rattle.heading.specs.Heading.{Name, limits_of, family_limits, spacing_at, header_of}
 use Rattle.heading.specs.Heading.Name.{level, system, zone, ground, vertical, accuracy, spacing, height as tall, profiles, minutes, seconds}

@@ -5,7 +5,7 @@ use Rattle.std.specs.Prelude.{ℕ, zero, suc, ◌+◌, ◌*◌, ◌-◌, min, Bo
 use Rattle.ground.specs.Blocks.{block_at, blocks_in}
 use Rattle.laws.specs.Sign.{same_z}
 use Rattle.laws.specs.Lists.{below, joined}
-use Rattle.field.specs.Field.{Fault}
+use Rattle.field.specs.declared.Fault.{Fault}
 use Rattle.field.specs.Field.{rest_fault}
 use Rattle.sheet.specs.RecordA.{fault_of}
 use Rattle.profile.specs.RecordB.{head_fault}

@@ -11,7 +11,7 @@ use native.Mathlib.Omega.{arith}
 use Rattle.laws.proofs.Tests.{and-fails-second}
 use Rattle.number.specs.Integer.{of_length, refused, wrong_form, integer, integer_form, integer_value, read, unsigned_part}
 use Rattle.number.specs.IntegerStarts.{integer_byte}
-use Rattle.number.specs.Reading.{Reading}
+use Rattle.number.specs.declared.Reading.{Reading}
 use Rattle.number.specs.Bytes.{is_empty, is_blank, is_sign, is_digit, past_one, past_all, digits}
 use Rattle.number.specs.Steps.{Past, stopped_at}
 use Rattle.number.proofs.IntegerBytes.{integer-byte-found}

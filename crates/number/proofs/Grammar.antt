@@ -15,7 +15,7 @@ use Rattle.laws.proofs.Tests.{clash, and_both, by-test}
 use Rattle.laws.specs.Starts.{VeryByte, Anyhow}
 use Rattle.laws.proofs.Answers.{one_answer}
 use Rattle.laws.proofs.Starts.{very-wrong, one-very-byte}
-use Rattle.number.specs.Reading.{Reading}
+use Rattle.number.specs.declared.Reading.{Reading}
 use Rattle.number.specs.Integer.{refused, wrong_form, of_length, read, integer, integer_form, integer_value, unsigned_part}
 use Rattle.number.specs.Grammar.{IntegerMeans, SomeInteger, RealText, RealMeans, SomeReal, Large, Billionths}
 use Rattle.number.specs.Bytes.{is_blank, is_minus, starts, past_all}

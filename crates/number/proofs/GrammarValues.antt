@@ -12,7 +12,7 @@ use Rattle.laws.specs.Digits.{short}
 use Rattle.laws.proofs.Shorts.{short-few, few-short}
 use Rattle.laws.proofs.Tens.{ten-pos}
 use Rattle.laws.proofs.Tests.{clash, and_first, and_second, and_both, by-test}
-use Rattle.number.specs.Reading.{Reading}
+use Rattle.number.specs.declared.Reading.{Reading}
 use Rattle.number.specs.Integer.{read, refused}
 use Rattle.number.specs.Grammar.{Large, Billionths, raised, sunk}
 use Rattle.number.specs.Real.{billionths}

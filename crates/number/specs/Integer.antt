@@ -1,7 +1,7 @@
 -- Document 01, "Number fields", and 02, request 6: an integer field, read alone.
 use Rattle.std.specs.Prelude.{ℕ, pos, ℤ, cond, Bool, not, List, leb, length}
 use Rattle.laws.specs.Sign.{◌and◌, signed}
-use Rattle.number.specs.Reading.{Reading}
+use Rattle.number.specs.declared.Reading.{Reading}
 use Rattle.number.specs.Bytes.{is_blank, is_sign, past_one, past_all, is_digit, is_empty, digits, is_minus, starts, number}
 use Rattle.number.specs.IntegerStarts.{integer_byte}
 

@@ -2,14 +2,8 @@
 use Rattle.std.specs.Prelude.{ℕ, ℤ, pos, Result, Ok, Err}
 use Rattle.kinds.specs.declared.Kind.{Kind}
 use Rattle.kinds.specs.Kinds.{number_of}
+use Rattle.number.specs.declared.Reading.{Reading}
 use Rattle.number.specs.declared.Unread.{Unread}
-
--- Kind 0 is a good reading; any other kind is document 01's number of the refusal, with the value 0. For wrong form the byte of the field, counted
--- from 1, that first makes the form impossible; 0 for every other kind.
-pub record Reading : Type 0 where
-  pub kind : ℕ
-  pub value : ℤ
-  pub byte : ℕ
 
 -- "A refused reading gives its kind and the value 0."
 abbrev pub said : Result ℤ Unread → Reading

@@ -3,7 +3,7 @@ use Rattle.std.specs.Prelude.{List, ◌++◌, ℕ, ◌+◌, ◌*◌, ◌/◌, �
 use Rattle.laws.specs.Sign.{◌and◌, signed}
 use Rattle.laws.specs.Digits.{short}
 use Rattle.number.specs.Bytes.{is_point, is_digit, past_one, past_all, digits, is_sign, is_letter, starts, is_minus, number, is_blank, is_empty}
-use Rattle.number.specs.Reading.{Reading}
+use Rattle.number.specs.declared.Reading.{Reading}
 use Rattle.number.specs.Integer.{read, refused, wrong_form, of_length, unsigned_part}
 use Rattle.number.specs.RealStarts.{real_byte}
 

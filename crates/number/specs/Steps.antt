@@ -13,7 +13,8 @@ use Rattle.kinds.specs.declared.Kind.{Kind}
 use Rattle.kinds.specs.declared.Kind.TheVariants.{Range, Fine}
 use Rattle.kinds.specs.Kinds.{number_of}
 use Rattle.number.specs.declared.Unread.{Unread}
-use Rattle.number.specs.Reading.{Reading, said}
+use Rattle.number.specs.Reading.{said}
+use Rattle.number.specs.declared.Reading.{Reading}
 use Rattle.number.specs.Integer.{read, refused, wrong_form}
 
 -- r is the place past what `after` passes of the text from `from` on

@@ -29,6 +29,34 @@ impl Unread {
     }
 }
 
+// What a field comes to in document 01's numbers. Kind 0 is a good reading; any other kind is the number of the refusal, with the value 0. For wrong form
+// the byte of the field, counted from 1, that first makes the form impossible; 0 for every other kind. Kept: what takes it promises an answer to any (field).
+#[derive(Clone, Copy)]
+pub struct Reading {
+    pub kind: u32,
+    pub value: i64,
+    pub byte: u8,
+}
+
+impl Reading {
+    pub fn told(read: Result<i64, Unread>) -> Reading
+        ensures { result ≡ said read }
+    {
+        match read {
+            Ok(value) => Reading {
+                kind: 0,
+                value,
+                byte: 0,
+            },
+            Err(u) => Reading {
+                kind: u.kind.number(),
+                value: 0,
+                byte: u.byte,
+            },
+        }
+    }
+}
+
 // No field goes on as this one does from `next` on, counted from 0; or it ends there, too soon, and its last byte is meant.
 fn wrong_form(next: usize, bytes: usize) -> Unread
     requires { (next ≤ bytes) × (bytes ≤ 24) }

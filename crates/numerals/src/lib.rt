@@ -76,6 +76,7 @@ pub fn put_byte(text: &mut [u8], at: usize, byte: u8) -> usize
     at
 }
 
+// Kept: byte by byte, since `copy_from_slice` has the archive for C ask for `memmove`, which it did not need before.
 pub fn put_word(text: &mut [u8], at: usize, word: &[u8]) -> usize
     ensures { GivenAt at word.now text.old text.new result }
 {
@@ -83,9 +84,10 @@ pub fn put_word(text: &mut [u8], at: usize, word: &[u8]) -> usize
     if !has_room(at, many, text.len()) {
         return at;
     }
-    let end = at + many;
-    text[at..end].copy_from_slice(word);
-    end
+    for i in 0..many {
+        text[at + i] = word[i];
+    }
+    at + many
 }
 
 pub fn put_minus(text: &mut [u8], at: usize, z: i64) -> usize

@@ -2,7 +2,7 @@
 use Rattle.std.specs.Prelude.{ℕ, ◌/◌, ◌^◌, ◌*◌, ℤ, pos, ◌*ℤ◌, negsuc, neg_ℤ, ◌≡◌, List, [], ◌∷◌}
 use Prim.Native.String.{String}
 use Rattle.laws.specs.Texts.{bytes}
-use Rattle.number.specs.Reading.{Reading}
+use Rattle.number.specs.declared.Reading.{Reading}
 use Rattle.number.specs.Integer.{integer, read, refused, wrong_form}
 use Rattle.number.specs.Real.{real, assumed}
 use Rattle.number.specs.Grammar.{point_before_last}

@@ -14,7 +14,8 @@ use lib.Seq.{take_at, length-take-le, drop-set-lt, drop-drop, take-suc-set, appe
 use mir.Syntax.{w32}
 use mir.Val.{SFits}
 use Rattle.number.specs.Integer.{integer}
-use Rattle.number.specs.Reading.{Reading, said}
+use Rattle.number.specs.Reading.{said}
+use Rattle.number.specs.declared.Reading.{Reading}
 use Rattle.number.specs.declared.Unread.{Unread}
 use Rattle.field.specs.Field.{stretch, fault, fault_or}
 use Rattle.field.specs.Told.{fault_told, broken, placed}
@@ -134,7 +135,7 @@ module _ {block : List ℕ} {byte n z : ℕ} {datum : ℤ} {t₀ : Tally} {befor
       value-is : post ≡ (integer (stretch first 6 block)).value
       value-is = ap (λ (x : Reading). x.value) (sym good-is ∙ here.same)
 
-      value-most : nat_abs post ≤ 32767
+      pub value-most : nat_abs post ≤ 32767
       value-most = rw value-is here.most
 
       pub cell-fits : z ≤ 100 → nat_abs datum ≤ 1000000 → SFits w32 (height z datum post)

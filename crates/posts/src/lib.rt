@@ -200,12 +200,22 @@ pub fn void_cells(grid: &mut [i32], n: usize)
     }
 }
 
+// Kept: one by one, since `copy_from_slice` has the archive for C ask for `memmove`, which it did not need before.
+fn put_values(grid: &mut [i32], at: usize, values: &[i32], n: usize)
+    requires { (at + n ≤ length grid.old) × (n ≤ length values.now) }
+    ensures { grid.new ≡ sets grid.old at (take n values.now) }
+{
+    for i in 0..n {
+        grid[at + i] = values[i];
+    }
+}
+
 // The first n values into the cells from one on, where there are so many of both; else nothing is written.
 pub fn place(grid: &mut [i32], at: usize, values: &[i32], n: usize)
     ensures { grid.new ≡ placed at n values.now grid.old }
 {
     let room = lattice::leaves_room(at as u64, n as u64, grid.len() as u64);
     if room && n <= values.len() {
-        grid[at..at + n].copy_from_slice(&values[..n]);
+        put_values(grid, at, values, n);
     }
 }

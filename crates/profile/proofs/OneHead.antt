@@ -3,7 +3,8 @@ use Rattle.std.proofs.Common.{◌≡◌, sym, ap}
 use Rattle.std.specs.Prelude.{Result, Ok, Err, Bool, true, false}
 use Rattle.laws.proofs.Tests.{clash}
 use Rattle.field.proofs.OneTold.{told-one}
-use Rattle.field.specs.Field.{Fault, fault}
+use Rattle.field.specs.Field.{fault}
+use Rattle.field.specs.declared.Fault.{Fault}
 use Rattle.field.specs.declared.Broken.{Broken}
 use Rattle.profile.specs.RecordB.{Headed, headed_told}
 use Rattle.profile.specs.RecordB.Headed.{Profile, Refused}

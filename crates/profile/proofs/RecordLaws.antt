@@ -11,7 +11,7 @@ use lib.IntN.{ℤ, pos, negsuc, nat_abs}
 use native.Mathlib.Nat.{div-le_of_le-mul}
 use Rattle.laws.proofs.Tests.{by-test, and_second}
 use Rattle.laws.proofs.Integers.{size-minus}
-use Rattle.number.specs.Reading.{Reading}
+use Rattle.number.specs.declared.Reading.{Reading}
 use Rattle.number.specs.Integer.{refused, integer}
 use Rattle.number.specs.Real.{real}
 use Rattle.number.proofs.Limits.{Limited, real-limits}

@@ -14,7 +14,7 @@ use Rattle.laws.specs.Lists.{joined}
 use Rattle.laws.specs.Sign.{◌and◌, is_zero, implies}
 use Rattle.laws.proofs.Tests.{by-test}
 use Rattle.laws.proofs.Tables.{all}
-use Rattle.number.specs.Reading.{Reading}
+use Rattle.number.specs.declared.Reading.{Reading}
 use Rattle.number.specs.Integer.{integer}
 use Rattle.number.specs.Real.{real}
 use Rattle.field.proofs.Ranges.{posts-kind}

@@ -11,7 +11,8 @@ use Rattle.kinds.specs.Kinds.{number_of}
 use Rattle.laws.specs.Texts.{every}
 use Rattle.laws.proofs.Tests.{by-test}
 use Rattle.number.specs.Bytes.{is_blank}
-use Rattle.field.specs.Field.{Judged, Fault, fault, first_of, rest_fault}
+use Rattle.field.specs.Field.{Judged, fault, first_of, rest_fault}
+use Rattle.field.specs.declared.Fault.{Fault}
 use Rattle.field.specs.declared.Broken.{Broken}
 use Rattle.profile.specs.RecordC.{half_fields, record_c}
 

@@ -1,11 +1,11 @@
 -- Document 01, "Record B (one profile)": the fields at the head of a profile's first block.
 use Rattle.std.specs.Prelude.{Bool, cond, ◌*◌, ◌%◌, ◌^◌, ℕ, ◌/◌, ℤ, nat_abs, pos, negsuc, neg_ℤ, leb, eqb, List, [], ◌∷◌, length, Result, Ok, Err}
 use Rattle.laws.specs.Sign.{◌and◌}
-use Rattle.number.specs.Reading.{Reading}
+use Rattle.number.specs.declared.Reading.{Reading}
 use Rattle.number.specs.Integer.{refused, integer}
 use Rattle.number.specs.Real.{real}
 use Rattle.field.specs.Field.{stretch, limits, posts_limits, ranged, at, Judged, whole_at, real_at, fault, first_of}
-use Rattle.field.specs.Field.{Fault}
+use Rattle.field.specs.declared.Fault.{Fault}
 use Rattle.profile.specs.declared.record_b.Head.{Head}
 use Rattle.field.specs.declared.Broken.{Broken}
 use Rattle.kinds.specs.Kinds.{number_of}

@@ -2,9 +2,9 @@
 use Rattle.std.specs.Prelude.{List, [], ◌∷◌, ◌++◌, ℕ, ◌+◌, Bool, true, false, cond, not, ℤ, pos, negsuc, eqb, length}
 use Rattle.laws.specs.Sign.{is_zero, ◌and◌}
 use Rattle.number.specs.Integer.{integer, refused}
-use Rattle.number.specs.Reading.{Reading}
+use Rattle.number.specs.declared.Reading.{Reading}
 use Rattle.field.specs.Field.{rest_fault, stretch, limits, ranged, Judged, at, whole_at, fault, first_of}
-use Rattle.field.specs.Field.{Fault}
+use Rattle.field.specs.declared.Fault.{Fault}
 
 -- "Codes 0 or 1 (9)"
 abbrev pub code_field : ℕ → List ℕ → Judged

@@ -4,7 +4,7 @@ use Rattle.std.specs.Prelude.{cond, List, [], ◌∷◌, ◌++◌, ℕ, ◌*◌,
 use Rattle.laws.specs.Family.{is_canadian}
 use Rattle.laws.specs.Lists.{joined}
 use Rattle.laws.specs.Sign.{◌and◌}
-use Rattle.field.specs.Field.{Limits}
+use Rattle.field.specs.declared.Limits.{Limits}
 use Rattle.field.specs.Field.{limits, real_at}
 use Rattle.field.specs.Rules.{Clause, clause, length_rules, integer_in, integer_by, real_rules}
 

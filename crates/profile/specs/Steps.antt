@@ -4,7 +4,7 @@ use Rattle.std.specs.Prelude.{List, ℕ}
 use Rattle.number.specs.Real.{real}
 use Rattle.number.specs.Integer.{integer}
 use Rattle.field.specs.Field.{stretch, fault, fault_or, limits, posts_limits, ranged, real_at}
-use Rattle.field.specs.Field.{Fault}
+use Rattle.field.specs.declared.Fault.{Fault}
 use Rattle.profile.specs.declared.record_b.Head.{Head}
 use Rattle.profile.specs.RecordB.{datum_field, hundredths}
 

@@ -82,10 +82,10 @@ fn read_posts(family: u64, number: u64, block: &[u8]) -> Result<u64, Broken>
     ensures value { IfOk result (λ n. n ≡ whole_at 13 block.now) }
 {
     let one = field::bounds_of(1, 1, 1, Kind::Value);
-    field::judge_at(one, block, 1)?;
-    field::judge_at(field::bounds_of(number, number, 1, Kind::Value), block, 7)?;
-    let posts = field::judge_at(field::posts_limits(family), block, 13)?;
-    field::judge_at(one, block, 19)?;
+    one.check_at(block, 1)?;
+    field::bounds_of(number, number, 1, Kind::Value).check_at(block, 7)?;
+    let posts = field::posts_limits(family).check_at(block, 13)?;
+    one.check_at(block, 19)?;
     Ok(figures::not_negative(posts))
 }
 

@@ -35,7 +35,7 @@ fn check_half(block: &[u8], byte: u16) -> Result<(), Broken>
     requires { byte ≤ 31 }
     ensures { fault_told result ≡ first_of (half_fields byte block.now) }
 {
-    let code = field::judge_at(field::bounds_of(0, 1, 1, Kind::Value), block, byte)?;
+    let code = field::bounds_of(0, 1, 1, Kind::Value).check_at(block, byte)?;
     let code = figures::not_negative(code);
     error_at(code, block, byte + 6)?;
     error_at(code, block, byte + 12)?;

@@ -69,6 +69,6 @@ fn run() -> Result<(), BadScript> {
 
 fn main() {
     if run().is_err() {
-        output::write_line("bad script");
+        output::write_text("bad script\n");
     }
 }

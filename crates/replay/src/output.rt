@@ -13,9 +13,14 @@ struct Output;
 
 impl fmt::Write for Output {
     fn write_str(&mut self, text: &str) -> fmt::Result {
-        io::write_all(STDOUT_FILENO, text.as_bytes());
+        write_text(text);
         Ok(())
     }
+}
+
+// In one write.
+pub(crate) fn write_text(text: &str) {
+    io::write_all(STDOUT_FILENO, text.as_bytes());
 }
 
 // Nobody could be told of a line that cannot be written.
@@ -25,8 +30,8 @@ pub(crate) fn write_line<D: fmt::Display + Drop>(line: D) {
 
 pub(crate) fn write_answer(answer: Answer) {
     match answer {
-        Answer::Taken => write_line("taken"),
-        Answer::Held => write_line("held"),
+        Answer::Taken => write_text("taken\n"),
+        Answer::Held => write_text("held\n"),
         Answer::Refused(kind, block, byte) => write_line(format_args!(
             "refused {kind} {block} {byte}"
         )),

@@ -12,10 +12,10 @@ use borrow.Author.Tests.{le-leb, eq-eqb}
 use Rattle.laws.specs.Sign.{not_negative}
 use Rattle.laws.proofs.Tests.{and_both}
 use Rattle.number.specs.Integer.{integer, read}
-use Rattle.number.specs.Reading.{Reading}
+use Rattle.number.specs.declared.Reading.{Reading}
 use Rattle.number.specs.Real.{real}
 use Rattle.field.specs.Field.{stretch, limits, in_range, ranged, fault, whole_at, real_at, first_of}
-use Rattle.field.specs.Field.{Fault}
+use Rattle.field.specs.declared.Fault.{Fault}
 use Rattle.frame.specs.declared.Header.{Header}
 use Rattle.frame.specs.Frame.{z_of}
 use Rattle.profile.specs.RecordB.{head_fields, head_fault, head_of}

@@ -12,7 +12,7 @@ use Rattle.laws.specs.Sign.{same_z}
 use Rattle.laws.proofs.Tests.{by-test}
 use Rattle.laws.proofs.SameNumbers.{same_z-is, same_z-fails}
 use Rattle.number.specs.Integer.{integer, read}
-use Rattle.number.specs.Reading.{Reading}
+use Rattle.number.specs.declared.Reading.{Reading}
 use Rattle.lattice.specs.Lattice.{multiple_of}
 use Rattle.lattice.proofs.Multiples.{multiple-whole}
 use Rattle.field.specs.Field.{stretch, fault, rest_fault}

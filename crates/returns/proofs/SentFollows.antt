@@ -11,7 +11,7 @@ use lib.Seq.{take_all, take-length}
 use mathlib.Core.Bool.{true}
 use Rattle.laws.proofs.Tests.{by-test}
 use Rattle.lattice.specs.Lattice.{lattice_of, place_of}
-use Rattle.field.specs.Field.{Fault}
+use Rattle.field.specs.declared.Fault.{Fault}
 use Rattle.field.specs.Field.{rest_fault}
 use Rattle.frame.specs.Frame.{columns_of, rows_of, west, east, south, north, cells_of, z_of}
 use Rattle.frame.specs.declared.Header.{Header}

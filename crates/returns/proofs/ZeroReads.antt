@@ -16,9 +16,9 @@ use Rattle.laws.proofs.Tables.{all}
 use Rattle.laws.proofs.Tests.{and_second, by-test, and_both, and_first}
 use Rattle.number.specs.Integer.{integer, read}
 use Rattle.number.specs.Real.{real}
-use Rattle.number.specs.Reading.{Reading}
+use Rattle.number.specs.declared.Reading.{Reading}
 use Rattle.field.specs.Field.{stretch, in_range, ranged, whole_at}
-use Rattle.field.specs.Field.{Limits}
+use Rattle.field.specs.declared.Limits.{Limits}
 use Rattle.frame.specs.declared.Header.{Header}
 use Rattle.frame.specs.Frame.{columns_of, rows_of, one_to2048, whole_fault}
 use Rattle.heading.specs.Heading.{zone_limits, ground_limits, height_limits, fields_obey, header_obeys, header_of}

@@ -4,7 +4,7 @@ use Rattle.std.specs.Prelude.{Result, Ok, Err}
 use Rattle.laws.proofs.Answers.{one_answer, OneResult}
 use Rattle.delivery.specs.Deliver.{Refusal}
 use Rattle.rules.specs.declared.Misstated.{Misstated}
-use Rattle.rules.specs.Steps.{closing_told}
+use Rattle.rules.specs.Told.{closing_told}
 use Rattle.rules.proofs.close_fault.Reads as close-fault·told
 use Rattle.rules.proofs.column_fits.Reads as column-fits·told
 use Rattle.rules.proofs.first_column.Reads as first-column·told

@@ -2,7 +2,7 @@
 // The rules over a whole profile: where it stands, and what closes it. Document 01, "Record B".
 ghost use Rattle.std.specs.Prelude.{◌≡◌, ◌+◌, eqb};
 ghost use Rattle.laws.specs.Sign.{same_z};
-ghost use Rattle.rules.specs.Steps.{closing_told};
+ghost use Rattle.rules.specs.Told.{closing_told};
 ghost use Rattle.delivery.specs.Deliver.{column_fits, row_fits, column_from, opened_at, stated, refusal, close_fault};
 
 use profile::record_b::Head;

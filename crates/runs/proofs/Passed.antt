@@ -10,7 +10,7 @@ use lib.Dec.{eqb, ltb, leb}
 use lib.IntN.{ℤ}
 use lib.ListN.{length}
 use Rattle.laws.proofs.Tests.{clash, by-test, either}
-use Rattle.field.specs.Field.{Fault}
+use Rattle.field.specs.declared.Fault.{Fault}
 use Rattle.frame.specs.declared.Header.{Header}
 use Rattle.frame.specs.Frame.{cells_of}
 use Rattle.sheet.specs.RecordA.{Checked}

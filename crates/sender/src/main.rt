@@ -3,9 +3,9 @@
 mod input;
 mod output;
 
-ghost use Rattle.std.specs.Prelude.{◌≡◌};
+ghost use Rattle.std.specs.Prelude.{◌≡◌, ◌*◌, length};
 ghost use Rattle.written.specs.Sending.{sheet_after};
-ghost use Rattle.sender.specs.Input.{bytes_of};
+ghost use Rattle.sender.specs.Input.{cells_from, bytes_of};
 
 // The open file that a program reads.
 const STDIN_FILENO: i32 = 0;
@@ -56,16 +56,23 @@ fn send_sheet(template: &[u8], grid: &[i32]) {
     send_room(template, grid, &mut room);
 }
 
+// The cells that are sent are those that the text says.
+fn send_cells(template: &[u8], text: &[u8], grid: &mut [i32])
+    requires { length text.now ≡ 4 * length grid.old }
+    ensures { grid.new ≡ cells_from text.now }
+{
+    input::decode(text, grid);
+    send_sheet(template, grid);
+}
+
 // The input's two parts, as far as they could be read.
 fn run(template: &[u8], text: &[u8]) {
     let Some(cells) = input::count_cells(text) else {
-        output::write_line("bad input");
+        output::write_bytes(b"bad input\n");
         return;
     };
     let mut grid = [0i32; 15000];
-    let grid = &mut grid[..cells];
-    input::decode(text, grid);
-    send_sheet(template, grid);
+    send_cells(template, text, &mut grid[..cells]);
 }
 
 // Four bytes more than the most cells take are read: that shows an input of too many.

@@ -22,7 +22,7 @@ fn read_obeys(p: Profile) -> bool
 fn profile_obeys(family: u64, h: Header, p: Profile) -> bool
     ensures { result ≡ profile_obeys family h p }
 {
-    field::in_range(field::posts_limits(family), p.posts)
+    field::in_range(field::posts_limits(family).limits(), p.posts)
         && lattice::leaves_room(p.row, p.posts, frame::rows(h))
         && p.datum.unsigned_abs() <= 1000000
         && heading::is_real_number(p.least)

@@ -12,12 +12,12 @@ use lib.IntN.{ℤ, pos}
 use Rattle.laws.specs.Family.{known, is_canadian}
 use Rattle.laws.specs.Sign.{not_negative}
 use Rattle.laws.proofs.Tests.{by-test}
-use Rattle.number.specs.Reading.{Reading}
+use Rattle.number.specs.declared.Reading.{Reading}
 use Rattle.number.specs.Integer.{integer}
 use Rattle.number.specs.Real.{real}
 use Rattle.field.specs.Field.{ranged, stretch, whole_at}
-use Rattle.field.specs.Field.{Fault}
-use Rattle.field.specs.Field.{Limits}
+use Rattle.field.specs.declared.Fault.{Fault}
+use Rattle.field.specs.declared.Limits.{Limits}
 use Rattle.field.proofs.Ranges.{ranged-value}
 use Rattle.frame.specs.Frame.{family_fault}
 use Rattle.heading.specs.Heading.{Name, limits_of, family_limits, spacing_at, header_of}

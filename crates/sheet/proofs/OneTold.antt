@@ -1,7 +1,8 @@
 -- What the code answers of a record A is one to one with what the definitions say of it.
 use Rattle.std.proofs.Common.{◌≡◌, refl, sym, ◌∙◌, ap}
 use Rattle.std.specs.Prelude.{Result, Ok, Err}
-use Rattle.field.specs.Field.{Fault, fault}
+use Rattle.field.specs.Field.{fault}
+use Rattle.field.specs.declared.Fault.{Fault}
 use Rattle.field.specs.Told.{fault_told}
 use Rattle.field.specs.declared.Broken.{Broken}
 use Rattle.field.proofs.OneTold.{told-one}

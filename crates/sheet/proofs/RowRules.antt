@@ -12,7 +12,7 @@ use Rattle.laws.specs.Texts.{every}
 use Rattle.laws.proofs.Tests.{and_first, and_second, by-test}
 use Rattle.number.specs.Bytes.{is_blank}
 use Rattle.field.specs.Field.{is_word, is_text, stretch, whole_at}
-use Rattle.field.specs.Field.{Limits}
+use Rattle.field.specs.declared.Limits.{Limits}
 use Rattle.field.specs.Rules.{Clause, text_rules, mixed_rules, filler_rules, integer_forms, integer_by, real_forms, real_rules, real_by}
 use Rattle.field.proofs.Rules.{nonzero}
 use Rattle.field.proofs.FieldRules.{Says, form-says, integer-says, real-says, stepped-says, text_says, real-alone}

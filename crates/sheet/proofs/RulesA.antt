@@ -13,7 +13,7 @@ use Rattle.laws.specs.Sign.{◌and◌}
 use Rattle.laws.proofs.Tests.{by-test, and_first, and_second}
 use Rattle.laws.proofs.Tables.{all}
 use Rattle.laws.proofs.Families.{each-family}
-use Rattle.field.specs.Field.{Fault}
+use Rattle.field.specs.declared.Fault.{Fault}
 use Rattle.field.specs.Field.{fault}
 use Rattle.field.specs.Rules.{Clause, KeepsAll, FirstBroken, Pointed}
 use Rattle.field.proofs.Rules.{named, broken_or, first-append, kept-or-broken, keeps-first, broken-first, broken-named}

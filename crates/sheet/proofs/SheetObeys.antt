@@ -10,12 +10,12 @@ use native.Mathlib.Omega.{arith}
 use Rattle.laws.specs.Family.{known, is_canadian}
 use Rattle.laws.specs.Sign.{not_negative}
 use Rattle.laws.proofs.Tests.{and_both, by-test}
-use Rattle.number.specs.Reading.{Reading}
+use Rattle.number.specs.declared.Reading.{Reading}
 use Rattle.number.specs.Integer.{integer}
 use Rattle.number.specs.Real.{real}
 use Rattle.number.proofs.Limits.{Limited, real-limits}
 use Rattle.field.specs.Field.{stretch, in_range, ranged, whole_at, real_at}
-use Rattle.field.specs.Field.{Limits}
+use Rattle.field.specs.declared.Limits.{Limits}
 use Rattle.field.proofs.Ranges.{range-read}
 use Rattle.frame.specs.Frame.{whole_fault, canadian_fault, family_fault}
 use Rattle.frame.specs.declared.Header.{Header}

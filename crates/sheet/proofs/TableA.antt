@@ -23,10 +23,11 @@ use Rattle.laws.specs.Family.{is_canadian}
 use Rattle.laws.specs.Sign.{◌and◌}
 use Rattle.laws.proofs.Tables.{all, all-at, and_left, and_right}
 use Rattle.laws.proofs.Tests.{by-test, clash, either}
-use Rattle.number.specs.Reading.{Reading, said}
+use Rattle.number.specs.Reading.{said}
+use Rattle.number.specs.declared.Reading.{Reading}
 use Rattle.number.specs.declared.Unread.{Unread}
 use Rattle.field.specs.Field.{fault, fault_or}
-use Rattle.field.specs.Field.{Fault}
+use Rattle.field.specs.declared.Fault.{Fault}
 use Rattle.field.specs.Told.{fault_told, placed}
 use Rattle.field.specs.declared.Broken.{Broken}
 use Rattle.sheet.specs.RecordA.{Row, canadian_front, usgs_front, back, front_of, judge_row, first_fault, fields_fault}

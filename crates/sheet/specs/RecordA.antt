@@ -6,9 +6,9 @@ use Rattle.laws.specs.Texts.{every}
 use Rattle.number.specs.Bytes.{is_blank}
 use Rattle.number.specs.Integer.{integer, read, refused}
 use Rattle.number.specs.Real.{real}
-use Rattle.number.specs.Reading.{Reading}
+use Rattle.number.specs.declared.Reading.{Reading}
 use Rattle.field.specs.Field.{is_word, is_text, stretch, whole_at, real_at, ranged, fault, fault_or}
-use Rattle.field.specs.Field.{Fault}
+use Rattle.field.specs.declared.Fault.{Fault}
 use Rattle.frame.specs.declared.Header.{Header}
 use Rattle.frame.specs.Frame.{family_fault}
 use Rattle.corner.specs.Corner.{says_corner}

@@ -1,14 +1,14 @@
 -- How the code walks record A: its table of rows, as the definitions have it. The public promise cites `record_a` alone.
 use Rattle.std.specs.Prelude.{ℕ, suc, ◌<◌, ◌≤◌, ◌+◌, ◌-◌, get_or, length, Bool, cond, eqb, List, [], ◌∷◌, pos, ℤ, ◌≡◌}
 use Rattle.laws.specs.Sign.{not_negative}
-use Rattle.number.specs.Reading.{Reading}
+use Rattle.number.specs.declared.Reading.{Reading}
 use Rattle.number.specs.Integer.{read, refused}
 use Rattle.field.specs.Field.{whole_at}
-use Rattle.field.specs.Field.{Fault}
+use Rattle.field.specs.declared.Fault.{Fault}
 use Rattle.frame.specs.declared.Corner.{Corner}
 use Rattle.frame.specs.declared.Header.{Header}
 use Rattle.heading.specs.Heading.Name.{ground}
-use Rattle.heading.specs.Steps.{named}
+use Rattle.heading.specs.Heading.{named}
 use Rattle.sheet.specs.declared.Row.{Row as declared-Row}
 use Rattle.sheet.specs.declared.Rule.{Rule as declared-Rule}
 use Rattle.sheet.specs.declared.Rule.TheVariants.{Words, Mixed, Filler, Form, Free, Plain, Spaced, Whole, Stepped}

@@ -5,7 +5,7 @@ use Rattle.std.specs.Prelude.{cond, List, [], ◌∷◌, ℕ, ◌*◌, ◌^◌, 
 use Rattle.laws.specs.Family.{is_canadian}
 use Rattle.laws.specs.Lists.{joined}
 use Rattle.laws.specs.Sign.{◌and◌}
-use Rattle.field.specs.Field.{Limits}
+use Rattle.field.specs.declared.Limits.{Limits}
 use Rattle.field.specs.Field.{limits, whole_at, real_at}
 use Rattle.field.specs.Rules.{Clause, clause, text_rules, mixed_rules, filler_rules, integer_forms, integer_in, integer_by, real_forms, real_rules, real_in, real_by}
 use Rattle.frame.specs.Frame.{corners_in_order, columns_of, rows_of, one_to2048, pairs, listed}

@@ -6,8 +6,7 @@ ghost use Rattle.laws.specs.Sign.{implies};
 ghost use Rattle.corner.specs.Corner.{says_corner};
 ghost use Rattle.sheet.specs.RecordA.{record_a, record_of, checked_told, judge, judge_row, front_of, back, fields_fault};
 ghost use Rattle.field.specs.Told.{fault_told, limits_told};
-ghost use Rattle.heading.specs.Heading.{family_limits};
-ghost use Rattle.heading.specs.Steps.{named};
+ghost use Rattle.heading.specs.Heading.{named, family_limits};
 ghost use Rattle.number.specs.Reading.{said};
 ghost use Rattle.sheet.specs.RecordA.Rule.{form, spaced};
 ghost use Rattle.sheet.specs.RecordASteps.{ruled, row_told, text_kept, Inside, AllInside, Begun, Walked, AllRead, place_of, value_from, number_from, corner_from, header_from};
@@ -129,7 +128,7 @@ impl Terms {
     fn limits(self, name: Name) -> Bounds
         ensures { limits_told result ≡ family_limits self.family (named name) self.system self.vertical }
     {
-        heading::family_limits(self.family, name, self.system, self.vertical)
+        name.limits_in(self.family, self.system, self.vertical)
     }
 }
 
@@ -141,10 +140,9 @@ fn judge_spacing(terms: Terms, field: &[u8]) -> Result<i64, Unread>
     if terms.family == 1 {
         return read;
     }
-    field::read_ranged(
-        heading::named_limits(Name::Spacing, terms.system, terms.vertical),
-        read,
-    )
+    Name::Spacing
+        .limits(terms.system, terms.vertical)
+        .hold(read)
 }
 
 // A field judged by its rule.
@@ -159,8 +157,8 @@ fn judge_field(terms: Terms, rule: Rule, field: &[u8]) -> Result<i64, Unread>
         Rule::Free => number::read_real(field),
         Rule::Plain => number::read_integer(field),
         Rule::Spaced => judge_spacing(terms, field),
-        Rule::Whole(name) => field::read_ranged(terms.limits(name), number::read_integer(field)),
-        Rule::Stepped(name) => field::read_ranged(terms.limits(name), number::read_real(field)),
+        Rule::Whole(name) => terms.limits(name).hold(number::read_integer(field)),
+        Rule::Stepped(name) => terms.limits(name).hold(number::read_real(field)),
     }
 }
 

@@ -69,7 +69,9 @@ fn write_field(content: Content, kept: &[u8], field: &mut [u8])
     ensures { field.new ≡ text_by content kept.now field.old }
 {
     match content {
-        Content::Kept => field.copy_from_slice(kept),
+        Content::Kept => {
+            numerals::put_word(field, 0, kept);
+        }
         Content::Integer(n) => {
             spell::write_integer(signed(n), field);
         }

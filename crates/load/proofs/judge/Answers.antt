@@ -20,7 +20,7 @@ pub returns-in-Stop : goal.returns-in-Stop
 returns-in-Stop c =
     let a = c.args in
     same-judging (gate-said a.s a.number a.block.now (room a.cells) (Stop _) c.requires.0 c.in-Stop.is)
-    (record { judged-is = c.refused.ensures; lies = tt })
+    (record { judged-is = c.refused_for.ensures; lies = tt })
 
 pub returns-in-Again : goal.returns-in-Again
 returns-in-Again c =

@@ -6,7 +6,8 @@ use mathlib.Core.Path.{subst⁻¹, subst}
 use mir.Syntax.{w32, w64}
 use mir.Val.{to_z, of_z, SFits}
 use Rattle.number.specs.Integer.{integer}
-use Rattle.number.specs.Reading.{Reading, said}
+use Rattle.number.specs.Reading.{said}
+use Rattle.number.specs.declared.Reading.{Reading}
 use Rattle.field.specs.Field.{stretch}
 use Rattle.field.specs.declared.Broken.{Broken}
 use Rattle.ground.specs.declared.Tally.{Tally}

@@ -4,7 +4,8 @@ use borrow.Author.Tests.{lt-ltb, le-ltb}
 use Rattle.kinds.specs.Kinds.{number_of}
 use Rattle.laws.specs.Family.{is_canadian}
 use Rattle.laws.specs.Sign.{implies}
-use Rattle.field.specs.Field.{Fault, fault}
+use Rattle.field.specs.Field.{fault}
+use Rattle.field.specs.declared.Fault.{Fault}
 use Rattle.field.specs.declared.Broken.{Broken}
 use Rattle.frame.specs.Frame.{family_fault}
 use Rattle.frame.specs.declared.Header.{Header}

@@ -25,7 +25,7 @@ returns-in-Err c =
     in
     same-judging
     (further-refused a.s a.number a.block.now n (number_of b.kind) b.byte c.min-n.ensures sc.fault-is (eqb-false (number_of b.kind) 0 (not-zero b.kind)))
-    (record { judged-is = c.refused.ensures; lies = tt })
+    (record { judged-is = c.refused_for.ensures; lies = tt })
 
 pub fill_step-requires : goal.fill_step-requires
 fill_step-requires c =

@@ -14,7 +14,7 @@ returns-then-not-column_fits c hs e f g =
     let fits : SFits w64 a.head.x = record { sfits = omega arith } in
     let place = c.column_of-c.ensures ∙ ap (column_place_of a.s.header) (to_z-of_z fits) in
     let gone = ap (column_fits a.s) (sym place) ∙ sym c.column_fits.ensures ∙ c.if-not-column_fits.true in
-    c.refused.ensures ∙ ap (judged_of a.s) (place-column a.s a.number a.head _ gone)
+    c.refused_for.ensures ∙ ap (judged_of a.s) (place-column a.s a.number a.head _ gone)
 
 pub returns-then-not-row_fits : goal.returns-then-not-row_fits
 returns-then-not-row_fits c hs e f g =
@@ -25,7 +25,7 @@ returns-then-not-row_fits c hs e f g =
     let row = c.row_of-w.ensures ∙ ap (row_place_of a.s.header) (to_z-of_z y-fits) in
     let east = ap (column_fits a.s) (sym column) ∙ sym c.column_fits.ensures ∙ c.if-not-column_fits.false in
     let gone = ap (row_fits a.s a.head.posts) (sym row) ∙ sym c.row_fits.ensures ∙ c.if-not-row_fits.true in
-    c.refused-then-not-row_fits.ensures ∙ ap (judged_of a.s) (place-row a.s a.number a.head _ east gone)
+    c.refused_for-then-not-row_fits.ensures ∙ ap (judged_of a.s) (place-row a.s a.number a.head _ east gone)
 
 pub fill_step-requires : goal.fill_step-requires
 fill_step-requires c =

@@ -3,7 +3,7 @@ use Rattle.std.proofs.Common.{◌-◌, ◌∙◌, ap, sym, refl, arith, Ok, Err}
 use mathlib.Core.Path.{ap₂}
 use Rattle.session.specs.declared.Session.{Session}
 use Rattle.delivery.specs.Deliver.{close_fault, closed_session}
-use Rattle.rules.specs.Steps.{closing_told}
+use Rattle.rules.specs.Told.{closing_told}
 use Rattle.gate.specs.Gate.{taken}
 use Rattle.progress.proofs.Counts.{goes_on}
 use Rattle.load.proofs.Filled.{filled-told, fill_more, fill-last, fill-broken}
@@ -26,7 +26,7 @@ returns-in-Err c hs e f g =
     let fault-is =
     ap closing_told (sym c.in-Err.is) ∙ c.close_fault.ensures ∙ ap₂ close_fault (ap (λ x. a.number - x) c.open_blocks.ensures) after
     in
-    c.refused.ensures
+    c.refused_for.ensures
     ∙ fill-broken a.s a.number a.column a.p a.n a.u a.sum hs e f g c.if-p-n.false r fault-is (λ z. omega (arith, z))
 
 pub returns-in-Ok : goal.returns-in-Ok
